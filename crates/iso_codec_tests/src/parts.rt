@@ -1,6 +1,7 @@
 //! The pieces of a message: rows, parts, message types, lengths and bitmaps.
 
 use iso_fakes::check;
+use iso_parts::raw::*;
 use iso_parts::*;
 use std::alloc::Global;
 use std::test::*;
@@ -16,10 +17,12 @@ mod bitmaps;
 mod judgements;
 mod texts;
 mod values;
+mod writing;
 
 use bitmaps::{FACTS, SetFact, check_sets, is_fact};
 use judgements::{JUDGEMENTS, Judgement, is_judged};
 use values::{FIGURES, Figure, check_values, is_figure};
+use writing::check_lengths;
 
 /// Lengths in ASCII digits.
 pub(super) const LL: Length = Length::LL(Digits::Ascii);
@@ -282,5 +285,6 @@ fn sets_and_bitmaps_are_told() -> Result<(), Fail> {
 fn values_and_bitmaps_are_written_and_read(rt: HostRuntime) -> Result<(), Fail> {
     let mut out = vec![in rt.alloc(); b'a', b'b']?;
     check_sets(&mut out)?;
+    check_lengths(&mut out)?;
     check_values(rt.alloc(), &mut out)
 }

@@ -10,7 +10,7 @@ use Rattle.iso_table.specs.Layout.{Layout, row_at, AreGood}
 use Rattle.iso_wire.specs.Contents.{Contents}
 use Rattle.iso_wire.specs.Elements.{value_in}
 use Rattle.iso_wire.specs.Reading.{message_at, whole}
-use Rattle.iso_wire.specs.Viewing.{Viewed, Views, Wired, front_of}
+use Rattle.iso_wire.specs.Viewing.{ViewContents, Views, SpellsBodies, front_of}
 use Rattle.iso_wire.proofs.ViewedValues.{value_there, value_absent}
 use Rattle.iso_order.specs.declared.told.Told.{Told}
 use Rattle.std.proofs.lemmas.Bool.{eqb-true}
@@ -48,7 +48,7 @@ record IsWired (rows : List (Option FieldSpec)) (es : Values) (n : ℕ) (body : 
 some-body : (x w : List ℕ) → Some x ≡ Some w → x ≡ w
 some-body x w h = cc
 
-wired-body : (rows : List (Option FieldSpec)) (es ws : Values) (b : List ℕ) (n : ℕ) (body : List ℕ) → Wired rows es ws b → value_in ws n ≡ Some body → IsWired rows es n body
+wired-body : (rows : List (Option FieldSpec)) (es ws : Values) (b : List ℕ) (n : ℕ) (body : List ℕ) → SpellsBodies rows es ws b → value_in ws n ≡ Some body → IsWired rows es n body
 wired-body rows [] [] b n body wired there = absurd cc
 wired-body rows [] (w ∷ ws) b n body wired there = absurd wired
 wired-body rows (e ∷ es) [] b n body wired there = absurd wired
@@ -76,7 +76,7 @@ wired-body rows (e ∷ es) (w ∷ ws) b n body wired there = go (eqb w.0 n) refl
           wired = rest.wired;
         }
 
-module _ (t : Layout) (v : Viewed) (b : List ℕ) (views : Views t b (Ok v) (message_at t b)) (all : v.used ≡ length b) where
+module _ (t : Layout) (v : ViewContents) (b : List ℕ) (views : Views t b (Ok v) (message_at t b)) (all : v.used ≡ length b) where
   -- the message that is viewed
   abbrev pub viewed : Contents
   viewed = record { mti = v.mti; elements = views.0 }

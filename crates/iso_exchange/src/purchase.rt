@@ -16,16 +16,15 @@ ghost use Rattle.iso_exchange.specs.Purchase.{purchase_elements, four_elements, 
 
 use crate::packed::{is_counted, is_packed, packed_five, packed_six, packed_three, write_packed};
 use iso_order::{Money, Order, TxKey};
-use iso_parts::{
-    Bitmap, Digits, FieldFault, Mti, encode_field, four_ascii_digits, four_bcd_digits,
-};
+use iso_parts::raw::{four_ascii_digits, four_bcd_digits};
+use iso_parts::{Bitmap, Digits, FieldFault, Mti, encode_field};
 use iso_table::Table;
 use iso_wire::{PackFault, digits_of, write_decimal};
 use std::alloc::AllocError;
 
 /// The most bytes that the request for a purchase takes: its type, its bitmap, and the values of its elements, each character
 /// in two bytes, with their lengths.
-const MOST_BYTES: usize = 192;
+const LONGEST_PURCHASE: usize = 192;
 
 /// The largest number of an acquirer: eleven nines.
 const MOST_ACQUIRER: u64 = 99_999_999_999;
@@ -248,7 +247,7 @@ pub(crate) fn append_purchase(
     if key.acquirer > MOST_ACQUIRER {
         return Err(PackFault::WrongLength(32));
     }
-    out.reserve(MOST_BYTES)?;
+    out.reserve(LONGEST_PURCHASE)?;
     append_type(table.mti(), mti, out)?;
     numbers().append(table.bitmap(), out)?;
     append_parts(table, &key, money, out)

@@ -13,7 +13,8 @@ ghost use Rattle.iso_exchange.specs.Plain.{IsPlain};
 
 use crate::packed::{is_packed, packed_number};
 use iso_order::{MOST_STAN, Told, TxKey};
-use iso_parts::{Coding, FieldSpec, Mti, Pad, decode_value};
+use iso_parts::raw::decode_value;
+use iso_parts::{Coding, FieldSpec, Mti, Pad};
 use iso_table::Table;
 use iso_wire::{View, number_in};
 use std::alloc::AllocError;
@@ -130,7 +131,7 @@ fn number_of(
 }
 
 /// The number of an element of twice as many digits as bytes, of the message that the whole body is.
-fn digits_of(
+fn digits_at(
     table: &Table,
     message: &View<'_>,
     body: &[u8],
@@ -236,8 +237,8 @@ pub(crate) fn told_of(
         (λ told. (m : Contents) (size : ℕ) → message_at table.now body.now ≡ whole m size
         → m.mti ≡ message.now.mti → told ≡ told_of m) }
 {
-    let sent = digits_of(table, message, body, 7, 5, value)?;
-    let stan = digits_of(table, message, body, 11, 3, value)?;
+    let sent = digits_at(table, message, body, 7, 5, value)?;
+    let stan = digits_at(table, message, body, 11, 3, value)?;
     let acquirer = number_of(table, message, body, 32, 1, 11, value)?;
     let code = number_of(table, message, body, 39, 2, 2, value)?;
     Ok(told_by(message.mti(), sent, stan, acquirer, code))

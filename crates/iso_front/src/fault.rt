@@ -150,9 +150,3 @@ impl From<AllocError> for ShardsFault {
         ShardsFault::Memory
     }
 }
-
-impl<T: Drop> From<AllocFailed<T>> for ShardsFault {
-    fn from(_fault: AllocFailed<T>) -> ShardsFault {
-        ShardsFault::Memory
-    }
-}

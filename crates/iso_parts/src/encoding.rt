@@ -1,6 +1,6 @@
 //! How characters are written.
 
-ghost use Rattle.std.specs.Prelude.{◌≡◌, ◌++◌, ◌≤◌, ◌<◌, ◌+◌, ◌*◌, ◌%◌, length, slice_index, IfOk, OnOk, OnErr};
+ghost use Rattle.std.specs.Prelude.{◌≡◌, ◌++◌, ◌∷◌, [], ◌≤◌, ◌<◌, ◌+◌, ◌*◌, ◌/◌, ◌%◌, length, slice_index, IfOk, OnOk, OnErr};
 ghost use Rattle.std.specs.List.{list_all};
 ghost use Rattle.hex.specs.Hex.{is_hex_digit, upper_digits};
 ghost use Rattle.iso_parts.specs.Spec.{is_coded, is_pad_byte};
@@ -159,16 +159,91 @@ pub(crate) fn encode_map_digits(bytes: &[u8], out: &mut Vec<u8>) -> Result<(), A
     }
 }
 
+/// The high one of the two characters of a byte.
+#[inline(always)]
+fn high_character(b: u8) -> u8
+    ensures { result ≡ 48 + b / 16 }
+{
+    b'0' + b / 16
+}
+
+/// The low one of the two characters of a byte.
+#[inline(always)]
+fn low_character(b: u8) -> u8
+    ensures { result ≡ 48 + b % 16 }
+{
+    b'0' + b % 16
+}
+
+/// The eight characters of four bytes.
+#[inline(always)]
+fn four_pairs(a: u8, b: u8, c: u8, d: u8) -> [u8; 8]
+    ensures { result ≡ characters (a ∷ b ∷ c ∷ d ∷ []) }
+{
+    [
+        high_character(a),
+        low_character(a),
+        high_character(b),
+        low_character(b),
+        high_character(c),
+        low_character(c),
+        high_character(d),
+        low_character(d),
+    ]
+}
+
+/// Appends the two characters of each byte, four bytes at a time, and gives the bytes that are left: fewer than four.
+#[inline(always)]
+fn decode_fours<'a>(bytes: &'a [u8], out: &mut Vec<u8>) -> Result<&'a [u8], AllocError>
+    ensures ok { IfOk result (λ rest.
+        out.new.items ++ characters rest.now ≡ out.old.items ++ characters bytes.now) }
+    ensures few { IfOk result (λ rest. length rest.now ≤ 3) }
+    ensures kept { Keeps out.old.items out.new.items }
+{
+    let mut rest = bytes;
+    while let [a, b, c, d, after @ ..] = rest {
+        out.extend_from_slice(&four_pairs(*a, *b, *c, *d))?;
+        rest = after;
+    }
+    Ok(rest)
+}
+
+/// Appends the two characters of each of a few bytes.
+#[inline(always)]
+fn decode_few(bytes: &[u8], out: &mut Vec<u8>) -> Result<(), AllocError>
+    requires { length bytes.now ≤ 3 }
+    ensures ok { OnOk result (out.new.items ≡ out.old.items ++ characters bytes.now) }
+    ensures err { OnErr result (Keeps out.old.items out.new.items) }
+{
+    match bytes {
+        [] => Ok(()),
+        [a] => out.extend_from_slice(&[high_character(*a), low_character(*a)]),
+        [a, b] => out.extend_from_slice(&[
+            high_character(*a),
+            low_character(*a),
+            high_character(*b),
+            low_character(*b),
+        ]),
+        [a, b, c] => out.extend_from_slice(&[
+            high_character(*a),
+            low_character(*a),
+            high_character(*b),
+            low_character(*b),
+            high_character(*c),
+            low_character(*c),
+        ]),
+        _ => unreachable!(),
+    }
+}
+
 /// Appends the two characters of each byte.
+#[inline(always)]
 fn decode_characters(bytes: &[u8], out: &mut Vec<u8>) -> Result<(), AllocError>
     ensures ok { OnOk result (out.new.items ≡ out.old.items ++ characters bytes.now) }
     ensures err { OnErr result (Keeps out.old.items out.new.items) }
 {
-    for b in bytes {
-        out.push(b'0' + *b / 16)?;
-        out.push(b'0' + *b % 16)?;
-    }
-    Ok(())
+    let rest = decode_fours(bytes, out)?;
+    decode_few(rest, out)
 }
 
 /// Appends the `n` characters of a packed body, behind its filler where the count is odd.

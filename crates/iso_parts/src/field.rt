@@ -224,7 +224,7 @@ fn decode_in_place(spec: &FieldSpec, before: usize, out: &mut Vec<u8>) -> Result
 {
     let (_, text) = out.as_slice().split_at(before);
     let value = spec.pad.without_padding(text);
-    if !spec.class.takes_apart(value) {
+    if !spec.class.takes(value) {
         return Err(FieldFault::NotInClass);
     }
     spec.pad.strip(before, out);

@@ -18,7 +18,7 @@ pub between-none : (l : List ℕ) (at : ℕ) → between l at at ≡ []
 between-none l at = let none : at - at ≡ 0 = omega arith in ap (λ (n : ℕ). take n (drop at l)) none
 
 -- a value that is still to be copied with those before it
-pub goes_on : (old values part : List ℕ) (from at end : ℕ) → from ≤ at → at ≤ end → part ≡ between values at end → Continues old old values from at end part from
+pub goes_on : (old values part : List ℕ) (from at end : ℕ) → from ≤ at → at ≤ end → part ≡ between values at end → (from ≤ end) × Continues old old (between values from at) part (between values from end)
 goes_on old values part from at end one two is = (
   omega (arith, one, two),
   ap (λ (l : List ℕ). old ++ l) (between-join values from at end one two) ∙ ap (λ (l : List ℕ). old ++ (between values from at ++ l)) (sym is),
@@ -26,7 +26,7 @@ goes_on old values part from at end one two is = (
 
 -- a value that is still to be copied behind its length
 pub goes_behind : (old mid new values front value : List ℕ) (from at end : ℕ) → at ≤ end → mid ≡ old ++ between values from at → new ≡ mid ++ front → value ≡ between values at end
-    → Continues old new values from at end (front ++ value) at
+    → (at ≤ end) × Continues old new (between values from at) (front ++ value) (between values at end)
 goes_behind old mid new values front value from at end le first second is =
     let run = between values from at in
     let b = between values at end in (
@@ -38,19 +38,19 @@ goes_behind old mid new values front value from at end le first second is =
     )
 
 -- a part that is written whole
-pub goes_past : (old mid new values part : List ℕ) (from at end : ℕ) → mid ≡ old ++ between values from at → new ≡ mid ++ part → Continues old new values from at end part end
+pub goes_past : (old mid new values part : List ℕ) (from at end : ℕ) → mid ≡ old ++ between values from at → new ≡ mid ++ part → (end ≤ end) × Continues old new (between values from at) part (between values end end)
 goes_past old mid new values part from at end first second = (
   omega arith,
   ap (λ (l : List ℕ). new ++ l) (between-none values end) ∙ append-nil new ∙ second ∙ ap (λ (l : List ℕ). l ++ part) first ∙ append_assoc old (between values from at) part,
 )
 
 -- one part more, of all that is to be written
-pub one_more : (all now new values part rest : List ℕ) (from at end next : ℕ) → Continues now new values from at end part next
+pub one_more : (all now new values part rest : List ℕ) (from at end next : ℕ) → Continues now new (between values from at) part (between values next end)
     → now ++ (between values from at ++ (part ++ rest)) ≡ all → new ++ (between values next end ++ rest) ≡ all
 one_more all now new values part rest from at end next step said =
     let run = between values from at in
     sym (append_assoc new (between values next end) rest)
-    ∙ ap (λ (l : List ℕ). l ++ rest) step.1
+    ∙ ap (λ (l : List ℕ). l ++ rest) step
     ∙ append_assoc now (run ++ part) rest
     ∙ ap (λ (l : List ℕ). now ++ l) (append_assoc run part rest)
     ∙ said

@@ -11,7 +11,7 @@ use Rattle.iso_wire.specs.Spelling.{AreBytes}
 use Rattle.iso_wire.specs.declared.fault.UnpackFault.{UnpackFault}
 use Rattle.iso_wire.specs.declared.judging.ResumePoint.{ResumePoint}
 use Rattle.iso_wire.specs.Judging.{end_of, Resumes}
-use Rattle.iso_wire.specs.Taking.{IsFront, ResumesIn}
+use Rattle.iso_wire.specs.Taking.{IsPieceOrFront, ResumesIn}
 use Rattle.iso_wire.proofs.Resumes.{resumed_read}
 use Rattle.iso_wire.proofs.Longest.{short_is_small}
 
@@ -25,7 +25,7 @@ cut_tells t old piece n parts stays good bytes long within =
     let all : front ++ drop n piece ≡ old ++ piece = append_assoc old (take n piece) (drop n piece) ∙ ap (λ (l : List ℕ). old ++ l) (take-append-drop n piece) in
     ap (message_at t) (sym all) ∙ stays t front (drop n piece) good bytes whole
 
-pub front_tells : (t : Layout) (old piece front : List ℕ) → PartLaws → ReadingStays → AreGood t.rows → AreBytes (old ++ front) → length old ≤ max_bytes t → IsFront (max_bytes t - length old) piece front
+pub front_tells : (t : Layout) (old piece front : List ℕ) → PartLaws → ReadingStays → AreGood t.rows → AreBytes (old ++ front) → length old ≤ max_bytes t → IsPieceOrFront (max_bytes t - length old) piece front
     → message_at t (old ++ piece) ≡ message_at t (old ++ front)
 front_tells t old piece front parts stays good bytes small (inl same) = ap (λ (l : List ℕ). message_at t (old ++ l)) (sym same)
 front_tells t old piece front parts stays good bytes small (inr first) =

@@ -17,6 +17,7 @@ pub mod Built
 pub mod Loop
 pub mod Appends
 pub mod RunLaws
+pub mod FirstRefusals
 pub mod Packs
 pub mod Adjacent
 pub mod PlainLaws

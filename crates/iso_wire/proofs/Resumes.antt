@@ -23,7 +23,7 @@ use Rattle.iso_parts.specs.Numbers.{numbers_in}
 use Rattle.iso_parts.specs.Mti.{mti_size}
 use Rattle.iso_wire.specs.Reading.{◌>>=◌, halt, type_at, primary_at, secondary_at, words_by, words_at, fault_place, answer, value_by, elements_at, message_at, whole}
 use Rattle.iso_wire.specs.ReadingLaws.{IsShort}
-use Rattle.iso_wire.specs.Judging.{end_of, end_of_elements, end_by, body_end, body_end_under, end_of_rest, behind_maps, secondary_words, ends_from, IsPointWithin, GoesOn, Resumes, Steps, IsResumed}
+use Rattle.iso_wire.specs.Judging.{end_of, end_of_elements, end_by, body_end, body_end_under, behind_body, behind_maps, secondary_words, ends_from, IsPointWithin, GoesOn, Resumes, PassesPart, IsResumed}
 use Rattle.iso_wire.proofs.Endings.{Stays, type_stays, primary_stays, secondary_stays}
 use Rattle.iso_wire.proofs.NeverMemory.{NeverMemory, message}
 use Rattle.iso_wire.proofs.Orders.{Values}
@@ -116,7 +116,7 @@ part_by true rows s n at front size ns b r is faults long =
 module _ (laws : PartLaws) where
   -- behind a good length, reading goes on at the body
   body_read : (rows : List (Option FieldSpec)) (s : FieldSpec) (n count at : ℕ) (ns b : List ℕ) → row_at rows n ≡ Some s → Counted s (drop at b) count
-      → end_of_elements rows (n ∷ ns) at b ≡ end_of_rest rows n count ns (at + prefix_size s.length) b
+      → end_of_elements rows (n ∷ ns) at b ≡ (body_end_under (row_at rows n) n count (at + prefix_size s.length) b >>= behind_body rows ns b)
   body_read rows s n count at ns b row read =
       let front = prefix_size s.length in
       let size = body_size s.coding count in
@@ -135,7 +135,7 @@ module _ (laws : PartLaws) where
       ∙ ap (λ o. body_end_under o n count (at + front) b >>= λ end. end_of_elements rows ns end b) (sym row)
 
   pub length_goes_on : (rows : List (Option FieldSpec)) (s : FieldSpec) (old ns : List ℕ) (n count at : ℕ) (b : List ℕ) → old ≡ n ∷ ns → row_at rows n ≡ Some s → count_at s (drop at b) ≡ Ok (Some count) → at ≤ length b
-      → (x : List ℕ) → end_of_elements rows old at (b ++ x) ≡ end_of_rest rows n count ns (at + prefix_size s.length) (b ++ x)
+      → (x : List ℕ) → end_of_elements rows old at (b ++ x) ≡ (body_end_under (row_at rows n) n count (at + prefix_size s.length) (b ++ x) >>= behind_body rows ns (b ++ x))
   length_goes_on rows s old ns n count at b is row read within = λ x.
       let place : drop at (b ++ x) ≡ drop at b ++ x = drop-append-le at b x within in
       let more = subst (λ (l : List ℕ). Counted s l count) (sym place) (counted_more s (drop at b) x count (counted s (drop at b) count read)) in
@@ -201,7 +201,7 @@ size_stays s count size b x is =
 
 -- behind a good body, reading goes on at the next element
 pub body_goes_on : (rows : List (Option FieldSpec)) (s : FieldSpec) (ns : List ℕ) (n count at end : ℕ) (b : List ℕ) → row_at rows n ≡ Some s → body_end s n count at b ≡ Ok end → at ≤ length b
-    → (x : List ℕ) → end_of_rest rows n count ns at (b ++ x) ≡ end_of_elements rows ns end (b ++ x)
+    → (x : List ℕ) → (body_end_under (row_at rows n) n count at (b ++ x) >>= behind_body rows ns (b ++ x)) ≡ end_of_elements rows ns end (b ++ x)
 body_goes_on rows s ns n count at end b row read within = λ x.
     let size = end_is n at end (size_at s count (drop at b)) read in
     let place : drop at (b ++ x) ≡ drop at b ++ x = drop-append-le at b x within in
@@ -209,22 +209,22 @@ body_goes_on rows s ns n count at end b row read within = λ x.
     ap (λ o. body_end_under o n count at (b ++ x) >>= λ end. end_of_elements rows ns end (b ++ x)) row
     ∙ ap (λ r. r >>= λ end. end_of_elements rows ns end (b ++ x)) stays
 
-pub body_ends : (rows : List (Option FieldSpec)) (s : FieldSpec) (ns : List ℕ) (n count at : ℕ) (b : List ℕ) (e : UnpackFault) → row_at rows n ≡ Some s → body_end s n count at b ≡ Err e → end_of_rest rows n count ns at b ≡ Err e
+pub body_ends : (rows : List (Option FieldSpec)) (s : FieldSpec) (ns : List ℕ) (n count at : ℕ) (b : List ℕ) (e : UnpackFault) → row_at rows n ≡ Some s → body_end s n count at b ≡ Err e → (body_end_under (row_at rows n) n count at b >>= behind_body rows ns b) ≡ Err e
 body_ends rows s ns n count at b e row bad =
     ap (λ o. body_end_under o n count at b >>= λ end. end_of_elements rows ns end b) row ∙ ap (λ r. r >>= λ end. end_of_elements rows ns end b) bad
 
-pub no_row_body : (rows : List (Option FieldSpec)) (ns : List ℕ) (n count at : ℕ) (b : List ℕ) → row_at rows n ≡ None → end_of_rest rows n count ns at b ≡ halt n at (UnknownElement n)
+pub no_row_body : (rows : List (Option FieldSpec)) (ns : List ℕ) (n count at : ℕ) (b : List ℕ) → row_at rows n ≡ None → (body_end_under (row_at rows n) n count at b >>= behind_body rows ns b) ≡ halt n at (UnknownElement n)
 no_row_body rows ns n count at b none = ap (λ o. body_end_under o n count at b >>= λ end. end_of_elements rows ns end b) none
 
 -- ---- from one point to the next
 
-pub steps_then : (t : Layout) (from : ResumePoint) (rest : Bitmap) (end : ℕ) (b : List ℕ) (r : Result ℕ UnpackFault) → Steps t from b rest (Ok end) → (after : ResumePoint) → Resumes t (points.Elements rest end) b after r → Resumes t from b after r
-steps_then t from rest end b r one after others = record { read = others.read; goes_on = λ x. one.0 x ∙ others.goes_on x; within = others.within }
+pub passes_then : (t : Layout) (from : ResumePoint) (rest : Bitmap) (end : ℕ) (b : List ℕ) (r : Result ℕ UnpackFault) → PassesPart t from b rest (Ok end) → (after : ResumePoint) → Resumes t (points.Elements rest end) b after r → Resumes t from b after r
+passes_then t from rest end b r one after others = record { read = others.read; goes_on = λ x. one.0 x ∙ others.goes_on x; within = others.within }
 
--- a step that begins where another point goes on alike
-pub step_from : (t : Layout) (from mid : ResumePoint) (rest : Bitmap) (b : List ℕ) (r : Result ℕ JudgingStop) → GoesOn t from mid b → Steps t mid b rest r → Steps t from b rest r
-step_from t from mid rest b (Ok end) one others = (λ x. one x ∙ others.0 x, others.1)
-step_from t from mid rest b (Err stopped) one others = record { read = others.read; goes_on = λ x. one x ∙ others.goes_on x; within = others.within }
+-- a part that is passed from where another point goes on alike
+pub passes_from : (t : Layout) (from mid : ResumePoint) (rest : Bitmap) (b : List ℕ) (r : Result ℕ JudgingStop) → GoesOn t from mid b → PassesPart t mid b rest r → PassesPart t from b rest r
+passes_from t from mid rest b (Ok end) one others = (λ x. one x ∙ others.0 x, others.1)
+passes_from t from mid rest b (Err stopped) one others = record { read = others.read; goes_on = λ x. one x ∙ others.goes_on x; within = others.within }
 
 pub resumes_then : (t : Layout) (from mid to : ResumePoint) (b : List ℕ) (r : Result ℕ UnpackFault) → GoesOn t from mid b → Resumes t mid b to r → Resumes t from b to r
 resumes_then t from mid to b r one rest = record { read = rest.read; goes_on = λ x. one x ∙ rest.goes_on x; within = rest.within }

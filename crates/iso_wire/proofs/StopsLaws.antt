@@ -9,7 +9,7 @@ use Rattle.iso_wire.specs.declared.unpacker.Fed.{Fed}
 use Rattle.iso_wire.specs.declared.unpacker.Fed.TheVariants as fed
 use Rattle.iso_wire.specs.Contents.{Contents}
 use Rattle.iso_wire.specs.Unpacker.{Feeds, StopsFed}
-use Rattle.iso_wire.specs.Viewing.{Viewed, Views}
+use Rattle.iso_wire.specs.Viewing.{ViewContents, Views}
 use Rattle.iso_wire.specs.Reading.{halt, message_at, whole, Unpacks}
 use Rattle.iso_wire.specs.ReadingLaws.{IsShort, ReadsSpellings, ReadingStays}
 use Rattle.iso_wire.specs.Spelling.{AreBytes, BeginsWith}
@@ -57,12 +57,12 @@ module _ (stops : StopsAsRead) where
   stop_is_told t b r good bytes h at element cause stop = subst (Unpacks r) ((stops t b at element cause good bytes).1 stop) h
 
   -- a view's fault is where the bytes stop
-  pub view_stops : (t : Layout) (b : List ℕ) (r : Result Viewed UnpackFault) → AreGood t.rows → AreBytes b → Views t b r (message_at t b) → IfErr r (λ e. Stops t b e.at e.element e.cause)
+  pub view_stops : (t : Layout) (b : List ℕ) (r : Result ViewContents UnpackFault) → AreGood t.rows → AreBytes b → Views t b r (message_at t b) → IfErr r (λ e. Stops t b e.at e.element e.cause)
   view_stops t b (Ok v) good bytes h = tt
   view_stops t b (Err e) good bytes h = (stops t b e.at e.element e.cause good bytes).0 h
 
   -- and where the bytes stop is its fault
-  pub stop_is_viewed : (t : Layout) (b : List ℕ) (r : Result Viewed UnpackFault) → AreGood t.rows → AreBytes b → Views t b r (message_at t b) → (at element : ℕ) (cause : UnpackCause) → Stops t b at element cause → Views t b r (halt element at cause)
+  pub stop_is_viewed : (t : Layout) (b : List ℕ) (r : Result ViewContents UnpackFault) → AreGood t.rows → AreBytes b → Views t b r (message_at t b) → (at element : ℕ) (cause : UnpackCause) → Stops t b at element cause → Views t b r (halt element at cause)
   stop_is_viewed t b r good bytes h at element cause stop = subst (Views t b r) ((stops t b at element cause good bytes).1 stop) h
 
   short_stops : (r : Result (Contents × ℕ) UnpackFault) (t : Layout) (b : List ℕ) → AreGood t.rows → AreBytes b → message_at t b ≡ r → IsShort r → (at : ℕ) × (element : ℕ) × Stops t b at element Short

@@ -17,7 +17,7 @@ use Rattle.iso_wire.specs.Faults.{out_of_memory}
 use Rattle.iso_wire.specs.Reading.{IsFaultOf, value_at}
 use Rattle.iso_wire.specs.ReadingLaws.{ReadsSpellings}
 use Rattle.iso_wire.specs.Spelling.{AreBytes, BeginsWith, PartAs, Spelling}
-use Rattle.iso_wire.specs.Viewing.{Viewed, front_of, starts_of, Wired, IsViewed}
+use Rattle.iso_wire.specs.Viewing.{ViewContents, front_of, starts_of, SpellsBodies, IsViewed}
 use Rattle.iso_wire.specs.declared.fault.UnpackFault.{UnpackFault}
 use Rattle.iso_wire.specs.declared.fault.UnpackCause.{UnpackCause}
 use Rattle.iso_wire.specs.declared.fault.UnpackCause.TheVariants.{Short, BadMti, WrongVersion, BadHex, ThirdBitmap, UnknownElement, Field, Memory}
@@ -78,7 +78,7 @@ module _ (rows : List (Option FieldSpec)) (n : ℕ) (b : List ℕ) where
         lies = found.lies;
       }
 
-  pub value_there : (es ws : Values) (at start : ℕ) (p rest : List ℕ) → Wired rows es ws p → drop at b ≡ p ++ rest → value_in (starts_of rows at ws) n ≡ Some start → IsValueAt rows es n start b
+  pub value_there : (es ws : Values) (at start : ℕ) (p rest : List ℕ) → SpellsBodies rows es ws p → drop at b ≡ p ++ rest → value_in (starts_of rows at ws) n ≡ Some start → IsValueAt rows es n start b
   value_there [] [] at start p rest wired lies there = absurd cc
   value_there [] (w ∷ ws) at start p rest wired lies there = absurd wired
   value_there (e ∷ es) [] at start p rest wired lies there = absurd wired
@@ -104,7 +104,7 @@ absent_by : (is : Bool) (e w : ℕ × List ℕ) (es ws : Values) (n : ℕ) → e
 absent_by true e w es ws n is same none rest = absurd cc
 absent_by false e w es ws n is same none rest = cond-false (eqb e.0 n) (Some e.1) (value_in es n) (subst (λ (k : ℕ). eqb k n ≡ false) same is) ∙ rest none
 
-pub value_absent : (rows : List (Option FieldSpec)) (es ws : Values) (p : List ℕ) (n : ℕ) → Wired rows es ws p → value_in ws n ≡ None → value_in es n ≡ None
+pub value_absent : (rows : List (Option FieldSpec)) (es ws : Values) (p : List ℕ) (n : ℕ) → SpellsBodies rows es ws p → value_in ws n ≡ None → value_in es n ≡ None
 value_absent rows [] [] p n wired none = refl
 value_absent rows [] (w ∷ ws) p n wired none = absurd wired
 value_absent rows (e ∷ es) [] p n wired none = absurd wired
@@ -154,7 +154,7 @@ parts_lie t m used b room spelling =
     let size : length head ≡ used - length parts = omega (arith, length-take-le used b room, ap length front, length-append head parts) in
     ap (drop (used - length parts)) all ∙ drop_at head (parts ++ drop used b) (used - length parts) size
 
-module _ (reads : ReadsSpellings) (t : Layout) (v : Viewed) (good : AreGood t.rows) (bytes : AreBytes v.bytes) where
+module _ (reads : ReadsSpellings) (t : Layout) (v : ViewContents) (good : AreGood t.rows) (bytes : AreBytes v.bytes) where
   -- the message is the one that the view is of
   viewed_is : (m : Contents) (size : ℕ) → (h : IsViewed t v v.bytes) → BeginsWith t m size v.bytes → h.0 ≡ m
   viewed_is m size h begins = same_message (h.0, v.used) (m, size) (sym ((reads t h.0 v.used v.bytes good bytes).1 (h.2, h.3.0)) ∙ (reads t m size v.bytes good bytes).1 begins)

@@ -22,7 +22,7 @@ use Rattle.iso_wire.specs.Reading.{◌>>=◌, value_at, elements_at, IsFaultOf, 
 use Rattle.iso_wire.specs.ReadingLaws.{ReadsSpellings, ReadingStays}
 use Rattle.iso_wire.specs.Spelling.{AreBytes, BeginsWithNone, PartAs, Parts}
 use Rattle.iso_wire.specs.Bodies.{wire_at, wires_at, view_at}
-use Rattle.iso_wire.specs.Viewing.{Viewed, Wired, Views, ViewsSpelled, IsViewed, starts_of}
+use Rattle.iso_wire.specs.Viewing.{ViewContents, SpellsBodies, Views, ViewsSpelled, IsViewed, starts_of}
 use Rattle.iso_wire.proofs.Built.{behind_beginning, message_begun}
 use Rattle.iso_wire.proofs.Bytes.{bytes_drop}
 use Rattle.iso_wire.proofs.NeverMemory.{NeverMemory, message}
@@ -32,7 +32,7 @@ use Rattle.iso_wire.proofs.Unpacks.{spelled_is_read, is_refused, is_settled}
 
 -- both read so many bytes, the one the values and the other their bodies
 abbrev Agrees : List (Option FieldSpec) → ℕ → List ℕ → Result (Values × ℕ) UnpackFault → Result (Values × ℕ) UnpackFault → Type 0
-Agrees rows at b (Ok x) (Ok w) = (used : ℕ) × (x.1 ≡ at + used) × (w.1 ≡ at + used) × (used ≤ length b) × Wired rows x.0 w.0 (take used b)
+Agrees rows at b (Ok x) (Ok w) = (used : ℕ) × (x.1 ≡ at + used) × (w.1 ≡ at + used) × (used ≤ length b) × SpellsBodies rows x.0 w.0 (take used b)
 Agrees rows at b (Err e) (Err f) = f ≡ e
 Agrees rows at b x w = ⊥
 
@@ -109,7 +109,7 @@ module _ (laws : PartLaws) where
 
 -- ---- the whole message
 
-abbrev pub as_view : Layout → Bor (List ℕ) → ℕ → ℕ → Values × ℕ → Result Viewed UnpackFault
+abbrev pub as_view : Layout → Bor (List ℕ) → ℕ → ℕ → Values × ℕ → Result ViewContents UnpackFault
 as_view t b mti at read = Ok (record { mti = mti; used = read.1; wires = read.0; starts = starts_of t.rows at read.0; bytes = b.now; address = b.ref_ptr })
 
 abbrev as_message : ℕ → Values × ℕ → Result (Contents × ℕ) UnpackFault
@@ -122,9 +122,9 @@ by_elements t b mti at (Ok x) (Err f) never = absurd never
 by_elements t b mti at (Ok x) (Ok w) same =
     let used : ℕ = same.0 in
     let place : drop at (take w.1 b.now) ≡ take used (drop at b.now) = ap (λ (k : ℕ). drop at (take k b.now)) same.2 ∙ drop-take at used b.now in
-    (x.0, at, ap (λ (k : ℕ). whole (record { mti = mti; elements = x.0 }) k) (same.1 ∙ sym same.2), subst (Wired t.rows x.0 w.0) (sym place) same.4, omega (arith, same.2), refl)
+    (x.0, at, ap (λ (k : ℕ). whole (record { mti = mti; elements = x.0 }) k) (same.1 ∙ sym same.2), subst (SpellsBodies t.rows x.0 w.0) (sym place) same.4, omega (arith, same.2), refl)
 
-abbrev pub view_behind : Layout → Bor (List ℕ) → ℕ × List ℕ × ℕ → Result Viewed UnpackFault
+abbrev pub view_behind : Layout → Bor (List ℕ) → ℕ × List ℕ × ℕ → Result ViewContents UnpackFault
 view_behind t b x = wires_at t.rows x.1 x.2 (drop x.2 b.now) >>= as_view t b x.0 x.2
 
 module _ (laws : PartLaws) where
@@ -137,25 +137,25 @@ module _ (laws : PartLaws) where
   is_view t b good fits = subst (Views t b.now (view_at t b)) (sym (message_begun t b.now)) (by_beginning t b (beginning_at t b.now) good fits)
 
   -- what is read of a message without its values views that message
-  pub views_as : (t : Layout) (b : Bor (List ℕ)) (r : Result Viewed UnpackFault) → AreGood t.rows → AreBytes b.now → view_at t b ≡ r → Views t b.now r (message_at t b.now)
-  views_as t b r good fits is = subst (λ (v : Result Viewed UnpackFault). Views t b.now v (message_at t b.now)) is (is_view t b good fits)
+  pub views_as : (t : Layout) (b : Bor (List ℕ)) (r : Result ViewContents UnpackFault) → AreGood t.rows → AreBytes b.now → view_at t b ≡ r → Views t b.now r (message_at t b.now)
+  views_as t b r good fits is = subst (λ (v : Result ViewContents UnpackFault). Views t b.now v (message_at t b.now)) is (is_view t b good fits)
 
 -- a fault that is handed on is the one that reading gave
-pub handed_on : (r : Result Viewed UnpackFault) (e : UnpackFault) (read : Result Viewed UnpackFault) → read ≡ Err e → IsErr r → IsErrAnd r (λ f. f ≡ e) → read ≡ r
+pub handed_on : (r : Result ViewContents UnpackFault) (e : UnpackFault) (read : Result ViewContents UnpackFault) → read ≡ Err e → IsErr r → IsErrAnd r (λ f. f ≡ e) → read ≡ r
 handed_on (Ok v) e read is err same = absurd same
 handed_on (Err f) e read is err same = is ∙ sym (ap Err same)
 
 -- the bodies with their lengths before them are the parts
-pub Wired-Parts : (rows : List (Option FieldSpec)) (es ws : Values) (b : List ℕ) → Wired rows es ws b → Parts rows es b
-Wired-Parts rows [] [] b h = h
-Wired-Parts rows [] (w ∷ ws) b h = absurd h
-Wired-Parts rows (e ∷ es) [] b h = absurd h
-Wired-Parts rows (e ∷ es) (w ∷ ws) b h =
+pub SpellsBodies-Parts : (rows : List (Option FieldSpec)) (es ws : Values) (b : List ℕ) → SpellsBodies rows es ws b → Parts rows es b
+SpellsBodies-Parts rows [] [] b h = h
+SpellsBodies-Parts rows [] (w ∷ ws) b h = absurd h
+SpellsBodies-Parts rows (e ∷ es) [] b h = absurd h
+SpellsBodies-Parts rows (e ∷ es) (w ∷ ws) b h =
     let s = h.0 in
     let p : List ℕ = prefix s.length (length e.1) in
-    (p ++ w.1, h.1, (s, h.2, (w.1, h.4, refl)), Wired-Parts rows es ws h.1 h.6, h.5 ∙ sym (append_assoc p w.1 h.1))
+    (p ++ w.1, h.1, (s, h.2, (w.1, h.4, refl)), SpellsBodies-Parts rows es ws h.1 h.6, h.5 ∙ sym (append_assoc p w.1 h.1))
 
-pub never_memory : (t : Layout) (b : List ℕ) (r : Result Viewed UnpackFault) → Views t b r (message_at t b) → IfErr r (λ e. e.cause ≢ Memory)
+pub never_memory : (t : Layout) (b : List ℕ) (r : Result ViewContents UnpackFault) → Views t b r (message_at t b) → IfErr r (λ e. e.cause ≢ Memory)
 never_memory t b (Ok v) h = tt
 never_memory t b (Err e) h = subst NeverMemory h (message t b)
 
@@ -210,7 +210,7 @@ parts_begin rows ss ws b p used front room inner is begin =
     let place : front ≡ used - length p = omega (arith, size, inner, length-drop front (take used b), ap length is) in
     begin ∙ ap (λ (k : ℕ). starts_of rows k ws) place
 
-pub is_viewed : PartLaws → ReadsSpellings → (t : Layout) (b : List ℕ) (r : Result Viewed UnpackFault) → AreGood t.rows → AreBytes b → Views t b r (message_at t b) → IfOk r (λ v. IsViewed t v b)
+pub is_viewed : PartLaws → ReadsSpellings → (t : Layout) (b : List ℕ) (r : Result ViewContents UnpackFault) → AreGood t.rows → AreBytes b → Views t b r (message_at t b) → IfOk r (λ v. IsViewed t v b)
 is_viewed laws reads t b (Ok v) good fits h =
     let es : Values = h.0 in
     let m : Contents = record { mti = v.mti; elements = es } in
@@ -219,24 +219,24 @@ is_viewed laws reads t b (Ok v) good fits h =
     let w : List ℕ = take v.used b in
     let head : List ℕ = four_digits_of t.mti v.mti ++ s.maps in
     let split : w ≡ head ++ s.parts = s.bytes ∙ sym (append_assoc (four_digits_of t.mti v.mti) s.maps s.parts) in
-    let size = same_parts laws t.rows es (drop h.1 w) s.parts (Wired-Parts t.rows es v.wires (drop h.1 w) h.3) s.elements in
+    let size = same_parts laws t.rows es (drop h.1 w) s.parts (SpellsBodies-Parts t.rows es v.wires (drop h.1 w) h.3) s.elements in
     let parts = same_end w head s.parts h.1 split size in
-    (m, refl, begins.0, (s, subst (Wired t.rows es v.wires) parts h.3, parts_begin t.rows v.starts v.wires b s.parts v.used h.1 begins.0 h.4 parts h.5))
+    (m, refl, begins.0, (s, subst (SpellsBodies t.rows es v.wires) parts h.3, parts_begin t.rows v.starts v.wires b s.parts v.used h.1 begins.0 h.4 parts h.5))
 is_viewed laws reads t b (Err e) good fits h = tt
 
 module _ (reads : ReadsSpellings) where
-  pub viewed_only : (t : Layout) (b : List ℕ) (r : Result Viewed UnpackFault) → AreGood t.rows → AreBytes b → Views t b r (message_at t b) → ViewsSpelled t b r
+  pub viewed_only : (t : Layout) (b : List ℕ) (r : Result ViewContents UnpackFault) → AreGood t.rows → AreBytes b → Views t b r (message_at t b) → ViewsSpelled t b r
   viewed_only t b r good fits h = λ m front rest spelled split.
       subst (Views t b r) (ap (message_at t) split ∙ spelled_is_read reads t m front rest good (subst AreBytes split fits) spelled) h
 
   fault_is : (t : Layout) (b : List ℕ) (e : UnpackFault) → message_at t b ≡ Err e → IsFaultOf e (message_at t b)
   fault_is t b e is = let other : e.cause ≢ Memory = subst NeverMemory is (message t b) in (λ memory. absurd (other memory), λ _. is)
 
-  pub view_refused : (t : Layout) (b : List ℕ) (r : Result Viewed UnpackFault) → AreGood t.rows → AreBytes b → Views t b r (message_at t b) → IfErr r (λ e. BeginsWithNone t b)
+  pub view_refused : (t : Layout) (b : List ℕ) (r : Result ViewContents UnpackFault) → AreGood t.rows → AreBytes b → Views t b r (message_at t b) → IfErr r (λ e. BeginsWithNone t b)
   view_refused t b (Ok v) good fits h = tt
   view_refused t b (Err e) good fits h = is_refused reads t b (Err e) good fits (fault_is t b e h) (subst NeverMemory h (message t b))
 
-  pub view_settled : ReadingStays → (t : Layout) (b : List ℕ) (r : Result Viewed UnpackFault) → AreGood t.rows → AreBytes b → Views t b r (message_at t b)
+  pub view_settled : ReadingStays → (t : Layout) (b : List ℕ) (r : Result ViewContents UnpackFault) → AreGood t.rows → AreBytes b → Views t b r (message_at t b)
       → IfErr r (λ e. e.cause ≢ Short → (more : List ℕ) → AreBytes more → BeginsWithNone t (b ++ more))
   view_settled stays t b (Ok v) good fits h = tt
   view_settled stays t b (Err e) good fits h = is_settled reads stays t b (Err e) good fits (fault_is t b e h) (subst NeverMemory h (message t b))

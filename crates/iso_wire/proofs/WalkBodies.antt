@@ -17,7 +17,7 @@ use Rattle.iso_wire.specs.Judging.{end_by, body_end}
 use Rattle.iso_wire.specs.Reading.{answer, value_by, value_at}
 use Rattle.iso_wire.specs.Spelling.{AreBytes, PartAs, Parts}
 use Rattle.iso_wire.specs.Stops.{body}
-use Rattle.iso_wire.specs.Walking.{IsFront, IsCounted, Passes}
+use Rattle.iso_wire.specs.Walking.{IsFront, next_body, IsCounted, Passes}
 use Rattle.iso_wire.specs.declared.fault.UnpackCause.TheVariants as causes
 use Rattle.iso_wire.specs.declared.fault.UnpackFault.{UnpackFault}
 use Rattle.iso_wire.specs.declared.judging.ResumePoint.TheVariants as points
@@ -80,7 +80,7 @@ module _ (laws : PartLaws) where
       let taken = value_taken laws t.rows n at b read.value (front + size) good bytes value in
       (taken.room, taken.part)
 
-  body_passes_by : (t : Layout) (b : List ℕ) (n c : ℕ) (s : FieldSpec) (rest : Bitmap) (at size end : ℕ) → AreGood t.rows → AreBytes b → row_at t.rows n ≡ Some s → (h : IsCounted t n c (members rest) at b) → h.row ≡ s → size_at s c (drop at b) ≡ Ok (Some size) → at + size ≡ end
+  body_passes_by : (t : Layout) (b : List ℕ) (n c : ℕ) (s : FieldSpec) (rest : Bitmap) (at size end : ℕ) → AreGood t.rows → AreBytes b → row_at t.rows n ≡ Some s → (h : IsCounted t (next_body n c at) (members rest) b) → h.row ≡ s → size_at s c (drop at b) ≡ Ok (Some size) → at + size ≡ end
       → Passes t b (body n s c) at (Ok (points.Elements rest end))
   body_passes_by t b n c s rest at size end good bytes row h same read place =
       let front = prefix_size s.length in
@@ -96,7 +96,7 @@ module _ (laws : PartLaws) where
         fewer t.rows (n + 1) (2 * n + 1) (members rest) ascends.2 (omega arith) (omega (arith, ascends.1)),
       )
 
-pub body_passes : PartLaws → (t : Layout) (b : List ℕ) (n c : ℕ) (s : FieldSpec) (rest : Bitmap) (at end : ℕ) → AreGood t.rows → AreBytes b → row_at t.rows n ≡ Some s → IsCounted t n c (members rest) at b → body_end s n c at b ≡ Ok end
+pub body_passes : PartLaws → (t : Layout) (b : List ℕ) (n c : ℕ) (s : FieldSpec) (rest : Bitmap) (at end : ℕ) → AreGood t.rows → AreBytes b → row_at t.rows n ≡ Some s → IsCounted t (next_body n c at) (members rest) b → body_end s n c at b ≡ Ok end
     → Passes t b (body n s c) at (Ok (points.Elements rest end))
 body_passes laws t b n c s rest at end good bytes row h read =
     let one = end_is n at end (size_at s c (drop at b)) read in

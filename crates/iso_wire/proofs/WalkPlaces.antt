@@ -19,7 +19,7 @@ use Rattle.iso_wire.specs.Reading.{◌>>=◌, elements_at, message_at}
 use Rattle.iso_wire.specs.Reading as reading
 use Rattle.iso_wire.specs.Spelling.{AreBytes, BeginsWith}
 use Rattle.iso_wire.specs.Stops.{below, IsBefore}
-use Rattle.iso_wire.specs.Walking.{place_of, length_under, length_ahead, body_under, ahead_of, IsFront, IsCounted, IsReached}
+use Rattle.iso_wire.specs.Walking.{place_of, length_under, length_ahead, body_under, ahead_of, IsFront, next_body, IsCounted, IsReached}
 use Rattle.iso_wire.specs.declared.judging.ResumePoint.{ResumePoint}
 use Rattle.iso_wire.specs.declared.judging.ResumePoint.TheVariants as points
 use Rattle.iso_wire.proofs.Bytes.{bytes_take, bytes_drop}
@@ -148,7 +148,7 @@ module _ (part_laws : PartLaws) (map_laws : MapLaws) where
 -- ---- a length
 
 module _ (part_laws : PartLaws) (map_laws : MapLaws) (piece_laws : PieceLaws) where
-  counted_stand : (t : Layout) (n c : ℕ) (ns : List ℕ) (at : ℕ) (b : List ℕ) → AreGood t.rows → AreBytes b → IsCounted t n c ns at b → (at ≤ length b) × StandsBefore t b at (body_under n c (row_at t.rows n))
+  counted_stand : (t : Layout) (n c : ℕ) (ns : List ℕ) (at : ℕ) (b : List ℕ) → AreGood t.rows → AreBytes b → IsCounted t (next_body n c at) ns b → (at ≤ length b) × StandsBefore t b at (body_under n c (row_at t.rows n))
   counted_stand t n c ns at b good bytes h =
       let s : FieldSpec = h.row in
       let front = prefix_size s.length in

@@ -13,7 +13,7 @@ use Rattle.iso_parts.specs.Mti.{mti_number}
 use Rattle.iso_wire.specs.Beginning.{beginning_at}
 use Rattle.iso_wire.specs.Reading.{◌>>=◌, value_at}
 use Rattle.iso_table.specs.Layout.{Layout, row_at}
-use Rattle.iso_wire.specs.Viewing.{Viewed, front_of, starts_of}
+use Rattle.iso_wire.specs.Viewing.{ViewContents, front_of, starts_of}
 
 -- where the body with a number begins, and how many bytes it is
 abbrev pub start_at : Bodies → ℕ → ℕ
@@ -44,7 +44,7 @@ abbrev pub starts_in : Bodies → List ℕ → List (ℕ × ℕ)
 starts_in bodies ns = map (start_of bodies) ns
 
 -- the message of an outline, with its bodies in the bytes
-abbrev pub viewed_of : Outline → Bor (List ℕ) → Bodies → Viewed
+abbrev pub viewed_of : Outline → Bor (List ℕ) → Bodies → ViewContents
 viewed_of outline b bodies =
     let ns = members outline.numbers in
     record {
@@ -85,7 +85,7 @@ wires_at rows (n ∷ ns) at b = do
   Ok ((n, wire_at (row_at rows n) b first.1) ∷ others.0, others.1)
 
 -- the message that the bytes begin with
-abbrev pub view_at : Layout → Bor (List ℕ) → Result Viewed UnpackFault
+abbrev pub view_at : Layout → Bor (List ℕ) → Result ViewContents UnpackFault
 view_at t b = do
   begun ← beginning_at t b.now
   read ← wires_at t.rows begun.1 begun.2 (drop begun.2 b.now)
@@ -115,7 +115,7 @@ abbrev pub BeginsThere : List (Option FieldSpec) → ℕ → List ℕ → Bodies
 BeginsThere rows at b bodies ns = starts_in bodies ns ≡ starts_of rows at (wires_in b bodies ns)
 
 -- an outline is of the message that reading gives, and its bodies lie there
-abbrev pub Outlines : Bor (List ℕ) → Bodies → Result Outline UnpackFault → Result Viewed UnpackFault
-    → Type 0
+abbrev pub Outlines : Bor (List ℕ) → Bodies → Result Outline UnpackFault
+    → Result ViewContents UnpackFault → Type 0
 Outlines b bodies (Ok outline) read = read ≡ Ok (viewed_of outline b bodies)
 Outlines b bodies (Err e) read = read ≡ Err e

@@ -7,7 +7,7 @@ use Rattle.iso_parts.specs.declared.digits.Digits.TheVariants.{Ascii}
 use Rattle.iso_wire.specs.Contents.{Contents}
 use Rattle.iso_wire.specs.FaultNames.{unpack_cause_name}
 use Rattle.iso_wire.specs.Masking.{shown_front, shown_end, readable_byte}
-use Rattle.iso_wire.specs.Viewing.{Viewed}
+use Rattle.iso_wire.specs.Viewing.{ViewContents}
 use Rattle.iso_wire.specs.declared.fault.UnpackCause.{UnpackCause}
 use Rattle.iso_wire.specs.declared.fault.UnpackCause.TheVariants.{UnknownElement}
 use Rattle.iso_wire.specs.declared.fault.UnpackFault.{UnpackFault}
@@ -32,7 +32,7 @@ debug_message m = codes "Message { mti: "
     ++ (four_digits_of Ascii m.mti ++ (flat_map debug_element m.elements ++ codes " }"))
 
 -- a message that lies in the caller's bytes: its type, and how many bytes it takes
-abbrev pub debug_view : Viewed → List ℕ
+abbrev pub debug_view : ViewContents → List ℕ
 debug_view v = codes "View { mti: "
     ++ (four_digits_of Ascii v.mti ++ (codes ", used: " ++ (decimal v.used ++ codes " }")))
 

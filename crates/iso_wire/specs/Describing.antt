@@ -114,13 +114,22 @@ abbrev pub IsDecimal : ℕ → List ℕ → Type 0
 IsDecimal v text = (d : ℕ) × (text ≡ decimal d v) × (1 ≤ d) × (v < 10 ^ d)
     × ((d ≡ 1) ⊎ (10 ^ (d - 1) ≤ v))
 
--- how many bytes a message took, and of how many
+-- the line that tells how many bytes a message took, and of how many
 abbrev pub IsUsedLine : ℕ → ℕ → List ℕ → Type 0
 IsUsedLine used total line =
     (first : List ℕ) × (second : List ℕ) × IsDecimal used first × IsDecimal total second
     × (line ≡ codes "USED=" ++ (first ++ (47 ∷ second ++ 10 ∷ [])))
 
+-- how many bytes a message took, and of how many
+pub record UsedBytes : Type 0 where
+  pub used : ℕ
+  pub total : ℕ
+
+-- so many of so many
+abbrev pub used_bytes : ℕ → ℕ → UsedBytes
+used_bytes used total = record { used = used; total = total }
+
 -- the description, and then that line
-abbrev pub AreLinesOf : Bool → Layout → Contents → ℕ → ℕ → List ℕ → Type 0
-AreLinesOf is_clear t m used total lines = (last : List ℕ) × IsUsedLine used total last
+abbrev pub AreLinesOf : Bool → Layout → Contents → UsedBytes → List ℕ → Type 0
+AreLinesOf is_clear t m size lines = (last : List ℕ) × IsUsedLine size.used size.total last
     × (lines ≡ description is_clear t m ++ last)

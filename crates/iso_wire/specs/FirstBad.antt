@@ -64,16 +64,36 @@ is_coded codings.Raw s i b = is_of_class s i b
 is_coded codings.Bcd s i b = is_packed s i b
 is_coded codings.HexText s i b = true
 
--- a byte may stand at place i of a piece of the kind, under the row of its element, where a fault speaks of single
--- bytes
-abbrev pub is_allowed : Layout → Option FieldSpec → PieceKind → UnpackCause → ℕ → ℕ → Bool
-is_allowed t row kinds.Type BadMti i b = is_of_digits t.mti b
-is_allowed t row kinds.Primary BadHex i b = is_hex_digit b
-is_allowed t row kinds.Secondary BadHex i b = is_hex_digit b
-is_allowed t (Some s) kinds.Length (Field fields.BadLengthDigits) i b = is_of_length s.length b
-is_allowed t (Some s) kinds.Body (Field fields.BadHex) i b = is_hex_digit b
-is_allowed t (Some s) kinds.Body (Field fields.NotInClass) i b = is_coded s.coding s i b
-is_allowed t row kind cause i b = true
+-- what each byte of a piece has to be
+pub data ByteRule : Type 0 where
+  -- a digit, or two of them
+  type_digit : Digits → ByteRule
+  -- a hexadecimal digit
+  hex_digit : ByteRule
+  -- of the digits of a length
+  length_digit : Length → ByteRule
+  -- one that may stand at its place of a body under this row
+  body_byte : FieldSpec → ByteRule
+  -- any byte
+  any_byte : ByteRule
+
+-- the rule of a piece of the kind, under the row of its element; any byte, where the fault speaks of no single byte
+abbrev pub rule_of : Layout → Option FieldSpec → PieceKind → UnpackCause → ByteRule
+rule_of t row kinds.Type BadMti = type_digit t.mti
+rule_of t row kinds.Primary BadHex = hex_digit
+rule_of t row kinds.Secondary BadHex = hex_digit
+rule_of t (Some s) kinds.Length (Field fields.BadLengthDigits) = length_digit s.length
+rule_of t (Some s) kinds.Body (Field fields.BadHex) = hex_digit
+rule_of t (Some s) kinds.Body (Field fields.NotInClass) = body_byte s
+rule_of t row kind cause = any_byte
+
+-- a byte may stand at place i of a piece whose bytes have this rule
+abbrev pub is_allowed : ByteRule → ℕ → ℕ → Bool
+is_allowed (type_digit d) i b = is_of_digits d b
+is_allowed hex_digit i b = is_hex_digit b
+is_allowed (length_digit l) i b = is_of_length l b
+is_allowed (body_byte s) i b = is_coded s.coding s i b
+is_allowed any_byte i b = true
 
 -- the first bytes, so many of them, may stand there, and the one behind them may not; or each may, and it is none of
 -- them
@@ -88,5 +108,6 @@ abbrev pub IsFirstBad : Layout → told.Piece → List ℕ → Option UnpackCaus
 IsFirstBad t p b None at = at ≡ p.start
 IsFirstBad t p b (Some Short) at = at ≡ p.end
 IsFirstBad t p b (Some cause) at =
-    (k : ℕ) × (at ≡ p.start + k) × IsFirstNot (is_allowed t (row_at t.rows p.element) p.kind cause)
+    (k : ℕ) × (at ≡ p.start + k)
+    × IsFirstNot (is_allowed (rule_of t (row_at t.rows p.element) p.kind cause))
     (take (p.end - p.start) (drop p.start b)) k

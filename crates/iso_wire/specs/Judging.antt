@@ -41,12 +41,9 @@ abbrev pub body_end_under : Option FieldSpec → ℕ → ℕ → ℕ → List �
 body_end_under None n count at b = halt n at (UnknownElement n)
 body_end_under (Some s) n count at b = body_end s n count at b
 
--- the end of the elements behind the body of element n, of so many characters, and of the body itself
-abbrev pub end_of_rest : List (Option FieldSpec) → ℕ → ℕ → List ℕ → ℕ → List ℕ
-    → Result ℕ UnpackFault
-end_of_rest rows n count ns at b = do
-  end ← body_end_under (row_at rows n) n count at b
-  end_of_elements rows ns end b
+-- the end of the elements with the numbers behind a body, whose end is given
+abbrev pub behind_body : List (Option FieldSpec) → List ℕ → List ℕ → ℕ → Result ℕ UnpackFault
+behind_body rows ns b end = end_of_elements rows ns end b
 
 -- the end of the elements behind the bitmaps, whose words and size are given
 abbrev pub behind_maps : Layout → List ℕ → ℕ × ℕ × ℕ → Result ℕ UnpackFault
@@ -66,7 +63,8 @@ ends_from t points.Primary b =
     words_at t (mti_size t.mti) (drop (mti_size t.mti) b) >>= behind_maps t b
 ends_from t (points.Secondary primary) b = secondary_words t primary b >>= behind_maps t b
 ends_from t (points.Elements rest at) b = end_of_elements t.rows (members rest) at b
-ends_from t (points.Body n count rest at) b = end_of_rest t.rows n count (members rest) at b
+ends_from t (points.Body n count rest at) b =
+    body_end_under (row_at t.rows n) n count at b >>= behind_body t.rows (members rest) b
 
 -- the bytes reach up to the point's piece, and the count of a body is one that its row takes
 abbrev pub IsPointWithin : Layout → ResumePoint → List ℕ → Type 0
@@ -89,9 +87,9 @@ pub record Resumes (t : Layout) (from : ResumePoint) (b : List ℕ) (to : Resume
   pub within : IsPointWithin t to b
 
 -- judging came behind a part, where the other elements go on; or it stopped within the part
-abbrev pub Steps : Layout → ResumePoint → List ℕ → Bitmap → Result ℕ JudgingStop → Type 0
-Steps t from b rest (Ok end) = GoesOn t from (points.Elements rest end) b × (end ≤ length b)
-Steps t from b rest (Err stop) = Resumes t from b stop.point (Err stop.fault)
+abbrev pub PassesPart : Layout → ResumePoint → List ℕ → Bitmap → Result ℕ JudgingStop → Type 0
+PassesPart t from b rest (Ok end) = GoesOn t from (points.Elements rest end) b × (end ≤ length b)
+PassesPart t from b rest (Err stop) = Resumes t from b stop.point (Err stop.fault)
 
 -- reading the whole is reading on from the point, whatever follows the bytes
 abbrev pub IsResumed : Layout → ResumePoint → List ℕ → Type 0

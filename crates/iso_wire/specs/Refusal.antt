@@ -1,6 +1,6 @@
 -- Why a message has no spelling under a table.
 use Rattle.std.specs.Option.{option_or}
-use Rattle.std.specs.Prelude.{ℕ, ◌/◌, ◌==◌, if◌then◌else◌, List, [], ◌∷◌, Option, Some, None}
+use Rattle.std.specs.Prelude.{◌≡◌, ℕ, ◌/◌, ◌==◌, if◌then◌else◌, List, [], ◌∷◌, ◌++◌, Option, Some, None}
 use Rattle.iso_parts.specs.declared.spec.FieldSpec.{FieldSpec}
 use Rattle.iso_parts.specs.declared.fault.FieldFault.{FieldFault}
 use Rattle.iso_parts.specs.declared.fault.FieldFault.TheVariants as fields
@@ -37,3 +37,18 @@ first_refusal rows (e ∷ es) =
 abbrev pub message_refusal : Layout → Contents → Option PackFault
 message_refusal t m =
     if m.mti / 1000 == t.version then first_refusal t.rows m.elements else Some WrongVersion
+
+-- no element is refused
+abbrev pub AreTaken : List (Option FieldSpec) → List (ℕ × List ℕ) → Type 0
+AreTaken rows [] = Unit {0}
+AreTaken rows (e ∷ es) = (refused_by (row_at rows e.0) e.0 e.1 ≡ None) × AreTaken rows es
+
+-- one element is refused for this reason, and no element before it is refused
+pub record IsFirstRefusal (rows : List (Option FieldSpec)) (es : List (ℕ × List ℕ))
+    (e : PackFault) : Type 0 where
+  pub before : List (ℕ × List ℕ)
+  pub bad : ℕ × List ℕ
+  pub behind : List (ℕ × List ℕ)
+  pub split : es ≡ before ++ bad ∷ behind
+  pub taken : AreTaken rows before
+  pub refusal : refused_by (row_at rows bad.0) bad.0 bad.1 ≡ Some e

@@ -36,9 +36,20 @@ pub record Pushes (old new : Elements) (run after v : List ℕ) : Type 0 where
   pub ends : new.ends.items ≡ old.ends.items ++ length ((old.values.items ++ run) ++ v) ∷ []
   pub values : new.values.items ++ after ≡ (old.values.items ++ run) ++ v
 
+-- a run that waits: the bytes it stands in, and the offsets at which it begins and ends
+pub record Run : Type 0 where
+  pub bytes : List ℕ
+  pub from : ℕ
+  pub to : ℕ
+
+-- these bytes, and these offsets
+abbrev pub run_of : List ℕ → ℕ → ℕ → Run
+run_of bytes from to = record { bytes = bytes; from = from; to = to }
+
 -- a function added the value that reading gives behind a run, and says where the run begins and ends then
-abbrev pub AppendsRun : List ℕ → Elements → Elements → ℕ → ℕ → Result (ℕ × ℕ) UnpackFault
+abbrev pub AppendsRun : Run → Elements → Elements → Result (ℕ × ℕ) UnpackFault
     → Result (List ℕ × ℕ) UnpackFault → Type 0
-AppendsRun b old new from at (Ok x) read = (first : List ℕ × ℕ) × (read ≡ Ok first)
-    × (x.1 ≡ at + first.1) × Pushes old new (run_in b from at) (run_in b x.0 x.1) first.0
-AppendsRun b old new from at (Err e) read = IsFaultOf e read
+AppendsRun r old new (Ok x) read = (first : List ℕ × ℕ) × (read ≡ Ok first)
+    × (x.1 ≡ r.to + first.1)
+    × Pushes old new (run_in r.bytes r.from r.to) (run_in r.bytes x.0 x.1) first.0
+AppendsRun r old new (Err e) read = IsFaultOf e read

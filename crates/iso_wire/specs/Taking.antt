@@ -42,8 +42,8 @@ IsBuilt before (Ok x) read = read ≡ whole x.0 (before + x.1)
 IsBuilt before (Err e) read = e ≡ out_of_memory
 
 -- a piece, or its first bytes, so many
-abbrev pub IsFront : ℕ → List ℕ → List ℕ → Type 0
-IsFront n piece front = (front ≡ piece) ⊎ (front ≡ take n piece)
+abbrev pub IsPieceOrFront : ℕ → List ℕ → List ℕ → Type 0
+IsPieceOrFront n piece front = (front ≡ piece) ⊎ (front ≡ take n piece)
 
 -- bytes whose first ones are judged up to this point
 abbrev pub ResumesIn : Layout → ResumePoint → List ℕ → Type 0

@@ -13,7 +13,7 @@ use Rattle.iso_table.specs.Layout.{Layout, row_at}
 
 -- the type, how many bytes the message takes, the body of each element, as it lies there, the offset where each of them
 -- begins, the bytes that it all lies in, and their address: their block of memory, and the offset in it
-pub record Viewed : Type 0 where
+pub record ViewContents : Type 0 where
   pub mti : ℕ
   pub used : ℕ
   pub wires : List (ℕ × List ℕ)
@@ -24,14 +24,14 @@ pub record Viewed : Type 0 where
 -- ---- where a body lies
 
 -- the body of an element lies in the message, from the offset where it begins up to the other
-abbrev pub LiesAt : Viewed → ℕ → ℕ → ℕ → Type 0
+abbrev pub LiesAt : ViewContents → ℕ → ℕ → ℕ → Type 0
 LiesAt v n start end =
     (start ≤ end) × (end ≤ v.used)
     × (value_in v.wires n ≡ Some (take (end - start) (drop start v.bytes)))
     × (value_in v.starts n ≡ Some start)
 
 -- the slice is the body of an element in its place: it isn't a copy, but begins in the very bytes, where the body begins
-abbrev pub IsBodyInPlace : Viewed → ℕ → Bor (List ℕ) → Type 0
+abbrev pub IsBodyInPlace : ViewContents → ℕ → Bor (List ℕ) → Type 0
 IsBodyInPlace v n body =
     (start : ℕ) × LiesAt v n start (start + length body.now) × (value_in v.wires n ≡ Some body.now)
     × (body.ref_ptr ≡ (v.address.0, v.address.1 + start))
@@ -51,33 +51,35 @@ starts_of rows at (w ∷ ws) =
 -- ---- what is viewed
 
 -- the bytes are the parts of the elements, with these bodies
-abbrev pub Wired : List (Option FieldSpec) → List (ℕ × List ℕ) → List (ℕ × List ℕ) → List ℕ → Type 0
-Wired rows [] [] b = b ≡ []
-Wired rows (e ∷ es) (w ∷ ws) b =
+abbrev pub SpellsBodies : List (Option FieldSpec) → List (ℕ × List ℕ) → List (ℕ × List ℕ) → List ℕ
+    → Type 0
+SpellsBodies rows [] [] b = b ≡ []
+SpellsBodies rows (e ∷ es) (w ∷ ws) b =
     (s : FieldSpec) × (rest : List ℕ) × (row_at rows e.0 ≡ Some s) × (w.0 ≡ e.0) × Body s e.1 w.1
-    × (b ≡ prefix s.length (length e.1) ++ (w.1 ++ rest)) × Wired rows es ws rest
-Wired rows es ws b = ⊥
+    × (b ≡ prefix s.length (length e.1) ++ (w.1 ++ rest)) × SpellsBodies rows es ws rest
+SpellsBodies rows es ws b = ⊥
 
 -- a view is of the message that reading gives, and its bodies are those of the spelling at the front, where they lie
 -- there; memory never runs out
-abbrev pub Views : Layout → List ℕ → Result Viewed UnpackFault → Result (Contents × ℕ) UnpackFault
-    → Type 0
+abbrev pub Views : Layout → List ℕ → Result ViewContents UnpackFault
+    → Result (Contents × ℕ) UnpackFault → Type 0
 Views t b (Ok v) read =
     (es : List (ℕ × List ℕ)) × (front : ℕ)
     × (read ≡ whole (record { mti = v.mti; elements = es }) v.used)
-    × Wired t.rows es v.wires (drop front (take v.used b))
+    × SpellsBodies t.rows es v.wires (drop front (take v.used b))
     × (front ≤ v.used) × (v.starts ≡ starts_of t.rows front v.wires)
 Views t b (Err e) read = read ≡ Err e
 
 -- what the first bytes spell is viewed
-abbrev pub ViewsSpelled : Layout → List ℕ → Result Viewed UnpackFault → Type 0
+abbrev pub ViewsSpelled : Layout → List ℕ → Result ViewContents UnpackFault → Type 0
 ViewsSpelled t b result = (m : Contents) (front rest : List ℕ) → Spelling t m front
     → b ≡ front ++ rest → Views t b result (whole m (length front))
 
 -- the first bytes, so many of them, spell a message of the type, the bodies are those of its elements in that spelling, and
 -- they begin where its parts lie, which are its last bytes
-abbrev pub IsViewed : Layout → Viewed → List ℕ → Type 0
+abbrev pub IsViewed : Layout → ViewContents → List ℕ → Type 0
 IsViewed t v b =
     (m : Contents) × (m.mti ≡ v.mti) × (v.used ≤ length b)
-    × ((spelling : Spelling t m (take v.used b)) × Wired t.rows m.elements v.wires spelling.parts
+    × ((spelling : Spelling t m (take v.used b))
+    × SpellsBodies t.rows m.elements v.wires spelling.parts
     × (v.starts ≡ starts_of t.rows (v.used - length spelling.parts) v.wires))

@@ -70,15 +70,25 @@ pub record IsFront (t : Layout) (ns : List ℕ) (at : ℕ) (b : List ℕ) : Type
   pub room : used ≤ length (drop (mti_size t.mti + words.2) b)
   pub parts : Parts t.rows earlier (take used (drop (mti_size t.mti + words.2) b))
 
+-- the body that comes next: the number of its element, how many characters it has, and the offset at which it begins
+pub record NextBody : Type 0 where
+  pub element : ℕ
+  pub count : ℕ
+  pub start : ℕ
+
+-- this element, so many characters, and this offset
+abbrev pub next_body : ℕ → ℕ → ℕ → NextBody
+next_body n c at = record { element = n; count = c; start = at }
+
 -- the length of the element before which the parts end was read, too
-pub record IsCounted (t : Layout) (n c : ℕ) (ns : List ℕ) (at : ℕ) (b : List ℕ) : Type 0 where
+pub record IsCounted (t : Layout) (ahead : NextBody) (ns : List ℕ) (b : List ℕ) : Type 0 where
   pub row : FieldSpec
   pub start : ℕ
-  pub is : row_at t.rows n ≡ Some row
-  pub front : IsFront t (n ∷ ns) start b
-  pub told : count_at row (drop start b) ≡ Ok (Some c)
-  pub most : c ≤ row.max
-  pub place : at ≡ start + prefix_size row.length
+  pub is : row_at t.rows ahead.element ≡ Some row
+  pub front : IsFront t (ahead.element ∷ ns) start b
+  pub told : count_at row (drop start b) ≡ Ok (Some ahead.count)
+  pub most : ahead.count ≤ row.max
+  pub place : ahead.start ≡ start + prefix_size row.length
 
 -- the point was reached: the pieces before it were read
 abbrev pub IsReached : Layout → List ℕ → ResumePoint → Type 0
@@ -88,7 +98,7 @@ IsReached t b (points.Secondary first) =
     (mti : ℕ) × (type_at t b ≡ Ok mti)
     × (primary_at t (mti_size t.mti) (drop (mti_size t.mti) b) ≡ Ok first) × (top ≤ first)
 IsReached t b (points.Elements rest at) = IsFront t (members rest) at b
-IsReached t b (points.Body n c rest at) = IsCounted t n c (members rest) at b
+IsReached t b (points.Body n c rest at) = IsCounted t (next_body n c at) (members rest) b
 
 -- the walk stands at a point that was reached, or where the bytes stop
 abbrev pub IsWalking : Layout → List ℕ → Result ResumePoint UnpackFault → Type 0

@@ -23,7 +23,8 @@ use crate::front::beginning_of;
 use crate::laws::{are_bytes, reads_spellings};
 use crate::unpacking::{fault_place, read_value};
 use crate::view_iteration::ViewIter;
-use iso_parts::{Bitmap, FieldSpec, Judged, Mti, PLACES, judge_field};
+use iso_parts::raw::PLACES;
+use iso_parts::{Bitmap, FieldSpec, Judged, Mti, judge_field};
 use iso_table::Table;
 use std::alloc::Global;
 use std::fmt;
@@ -197,10 +198,10 @@ pub struct View<'a> {
 impl<'a> Model for View<'a> {
     ghost use Rattle.std.specs.Prelude.{◌≤◌, length};
     ghost use Rattle.iso_wire.specs.Bodies.{viewed_of, AreWithin};
-    ghost use Rattle.iso_wire.specs.Viewing.{Viewed};
+    ghost use Rattle.iso_wire.specs.Viewing.{ViewContents};
     ghost use Rattle.iso_parts.specs.Numbers.{members};
 
-    ghost Value = { Viewed };
+    ghost Value = { ViewContents };
 
     ghost view = { λ v. viewed_of v.outline v.bytes v.bodies };
 

@@ -15,7 +15,8 @@ use crate::fault::UnpackFault;
 use crate::front::beginning_of;
 use crate::message::Message;
 use crate::unpacking::values_room;
-use iso_parts::{Bitmap, Mti, decode_judged};
+use iso_parts::raw::decode_judged;
+use iso_parts::{Bitmap, Mti};
 use iso_table::Table;
 use std::alloc::Global;
 

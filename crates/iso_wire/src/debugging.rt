@@ -10,7 +10,8 @@ ghost use Rattle.iso_wire.specs.Debugging.{debug_element, debug_cause, debug_sto
 use crate::fault::{UnpackCause, UnpackFault};
 use crate::iteration::Iter;
 use crate::masking::{masked, write_text};
-use iso_parts::{Mti, four_ascii_digits};
+use iso_parts::Mti;
+use iso_parts::raw::four_ascii_digits;
 use std::fmt;
 
 /// Writes a message type in four digits.

@@ -11,7 +11,8 @@ use crate::decimal::{digits_of, write_decimal};
 use crate::masking::masked;
 use crate::message::Message;
 use crate::words::push_type;
-use iso_parts::{CharClass, hex_digit};
+use iso_parts::CharClass;
+use iso_parts::raw::hex_digit;
 use iso_table::Table;
 use std::alloc::{AllocError, Global};
 

@@ -4,7 +4,7 @@ ghost use Rattle.std.specs.Prelude.{◌≡◌, ◌≤◌, ◌+◌, length};
 ghost use Rattle.hex.specs.Hex.{is_hex_digit};
 ghost use Rattle.iso_parts.specs.Class.{is_digit, is_member, is_first};
 ghost use Rattle.iso_wire.specs.FirstBad.{is_of_digits, is_of_length, fills, is_padded, is_of_class, is_half, is_packed};
-ghost use Rattle.iso_wire.specs.FirstBad.{is_coded, is_allowed, IsFirstNot, IsFirstBad};
+ghost use Rattle.iso_wire.specs.FirstBad.{is_coded, rule_of, is_allowed, IsFirstNot, IsFirstBad};
 
 use crate::fault::UnpackCause;
 use crate::pieces::{Piece, PieceKind};
@@ -138,7 +138,7 @@ fn is_allowed(
     at: usize,
     byte: u8,
 ) -> bool
-    ensures { result ≡ is_allowed table.now row kind cause at byte }
+    ensures { result ≡ is_allowed (rule_of table.now row kind cause) at byte }
 {
     match (kind, cause, row) {
         (PieceKind::Type, UnpackCause::BadMti, _) => is_of_digits(table.mti(), byte),
@@ -162,7 +162,7 @@ fn first_not_allowed(
     cause: UnpackCause,
     bytes: &[u8],
 ) -> usize
-    ensures first { IsFirstNot (is_allowed table.now row kind cause) bytes.now result }
+    ensures first { IsFirstNot (is_allowed (rule_of table.now row kind cause)) bytes.now result }
     ensures within { result ≤ length bytes.now }
 {
     let mut at = 0;

@@ -162,6 +162,7 @@ pub fn close_frame(header: Header, frame: &mut [u8]) -> Result<(), FrameFault>
 /// header. Takes no memory. The bytes behind the header aren't looked at.
 ///
 /// The only fault is `BadDigits`.
+#[inline(always)]
 pub fn body_length(header: Header, input: &[u8]) -> Result<Option<usize>, FrameFault>
     ensures { TellsLength header input.now result }
 {

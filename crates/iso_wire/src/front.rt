@@ -12,7 +12,8 @@ ghost use Rattle.iso_wire.specs.declared.fault.UnpackCause.TheVariants.{Memory};
 ghost use Rattle.iso_wire.specs.Reading.{Gives, type_at, word_at, known_by, primary_at, secondary_at, words_at};
 
 use crate::fault::{UnpackCause, UnpackFault};
-use iso_parts::{Bitmap, BitmapCoding, Digits, Mti, bcd_characters, tells_another};
+use iso_parts::raw::{bcd_characters, tells_another};
+use iso_parts::{Bitmap, BitmapCoding, Digits, Mti};
 use iso_table::Table;
 
 /// What a message begins with: its type, the numbers of its elements, and where the first of them begins.

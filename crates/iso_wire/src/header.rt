@@ -3,7 +3,8 @@
 ghost use Rattle.std.specs.Prelude.{◌≡◌, ◌≤◌, length};
 ghost use Rattle.iso_wire.specs.Framing.{largest, header_size, header_of, header_length};
 
-use iso_parts::{Digits, four_ascii_digits, four_bcd_digits, four_digits_in};
+use iso_parts::Digits;
+use iso_parts::raw::{four_ascii_digits, four_bcd_digits, four_digits_in};
 
 /// How a frame counts its body. The header's own bytes don't count.
 #[derive(Clone, Copy, Debug, PartialEq, Eq)]

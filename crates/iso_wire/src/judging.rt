@@ -4,12 +4,13 @@ ghost use Rattle.std.specs.Prelude.{◌≡◌, ◌≤◌, ◌+◌, ◌∷◌, �
 ghost use Rattle.iso_parts.specs.Bitmap.{map_size};
 ghost use Rattle.iso_parts.specs.Spec.{IsGood};
 ghost use Rattle.iso_parts.specs.Mti.{mti_size};
-ghost use Rattle.iso_wire.specs.Judging.{IsPointWithin, Resumes, Steps, body_end};
+ghost use Rattle.iso_wire.specs.Judging.{IsPointWithin, Resumes, PassesPart, body_end};
 ghost use Rattle.iso_parts.specs.Numbers.{members};
 
 use crate::fault::{UnpackCause, UnpackFault};
 use crate::front::{primary_of, secondary_of, type_of};
-use iso_parts::{Bitmap, FieldSpec, Judged, judge_body, judge_field, judge_length, tells_another};
+use iso_parts::raw::{judge_body, judge_length, tells_another};
+use iso_parts::{Bitmap, FieldSpec, Judged, judge_field};
 use iso_table::Table;
 
 /// The piece from which judging goes on, since it isn't whole yet.
@@ -81,7 +82,7 @@ fn judge_value(
     bytes: &[u8],
 ) -> Result<usize, JudgingStop>
     requires { IsPointWithin table.now (ResumePoint.Body n count rest at) bytes.now }
-    ensures { Steps table.now (ResumePoint.Body n count rest at) bytes.now rest result }
+    ensures { PassesPart table.now (ResumePoint.Body n count rest at) bytes.now rest result }
 {
     let point = ResumePoint::Body { n, count, rest, at };
     let Some(row) = table.row(n) else {
@@ -106,7 +107,7 @@ fn judge_pieces(
 ) -> Result<usize, JudgingStop>
     requires first { members from ≡ n ∷ members rest }
     requires within { at ≤ length bytes.now }
-    ensures { Steps table.now (ResumePoint.Elements from at) bytes.now rest result }
+    ensures { PassesPart table.now (ResumePoint.Elements from at) bytes.now rest result }
 {
     iso_parts::laws::parts();
     let point = ResumePoint::Elements { rest: from, at };
@@ -142,7 +143,7 @@ fn judge_part(
 ) -> Result<usize, JudgingStop>
     requires first { members from ≡ n ∷ members rest }
     requires within { at ≤ length bytes.now }
-    ensures { Steps table.now (ResumePoint.Elements from at) bytes.now rest result }
+    ensures { PassesPart table.now (ResumePoint.Elements from at) bytes.now rest result }
 {
     iso_parts::laws::parts();
     if let Some(row) = table.row(n) {

@@ -5,7 +5,7 @@ ghost use Rattle.std.specs.Fmt.{WritesOnOk};
 ghost use Rattle.std.specs.List.{flat_map};
 ghost use Rattle.iso_wire.specs.Masking.{Masks, masked_text, readable_byte};
 
-use iso_parts::hex_digit;
+use iso_parts::raw::hex_digit;
 use std::fmt;
 
 /// The bytes of a value that a bystander may read, and how many are hidden between them.

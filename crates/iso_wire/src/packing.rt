@@ -1,6 +1,6 @@
 //! Writing a message.
 
-ghost use Rattle.std.specs.Prelude.{◌≡◌, ◌≢◌, ℕ, ◌+◌, ◌≤◌, ◌++◌, ◌<◌, List, length, OnOk, OnErr, IfOk, IfErr, None, Some};
+ghost use Rattle.std.specs.Prelude.{◌≡◌, ◌≢◌, ℕ, ◌+◌, ◌≤◌, ◌/◌, ◌++◌, ◌<◌, List, length, OnOk, OnErr, IfOk, IfErr, None, Some};
 ghost use Rattle.std.specs.List.{flat_map};
 ghost use Rattle.iso_parts.specs.Digits.{four_digits_of};
 ghost use Rattle.iso_parts.specs.Mti.{mti_number};
@@ -13,16 +13,15 @@ ghost use Rattle.iso_parts.specs.Numbers.{members};
 ghost use Rattle.iso_parts.specs.Buffers.{Keeps};
 ghost use Rattle.iso_table.specs.Layout.{row_at, AreGood};
 ghost use Rattle.iso_wire.specs.Reading.{message_at, whole};
-ghost use Rattle.iso_wire.specs.Refusal.{as_pack, refused_field, refused_by, first_refusal, message_refusal};
+ghost use Rattle.iso_wire.specs.Refusal.{IsFirstRefusal, as_pack, refused_field, refused_by, first_refusal, message_refusal};
 ghost use Rattle.iso_wire.specs.Spelling.{PartAs, Parts, plain_of, Spelling, PlainSpelling, AreBytes};
 
 use crate::elements::Elements;
 use crate::fault::PackFault;
 use crate::laws::reads_spellings;
 use crate::message::Message;
-use iso_parts::{
-    Bitmap, Digits, FieldFault, FieldSpec, Length, Mti, encode_field, encode_length, judge_value,
-};
+use iso_parts::raw::{encode_length, judge_value};
+use iso_parts::{Bitmap, Digits, FieldFault, FieldSpec, Length, Mti, encode_field};
 use iso_table::Table;
 use std::alloc::{AllocError, Global};
 
@@ -90,8 +89,10 @@ fn append_before(
     requires within { at + length value.now ≤ length values.now }
     requires value { value.now ≡ between values.now at (at + length value.now) }
     requires fits { Fits spec.now value.now }
-    ensures ok { IfOk result (Continues out.old.items out.new.items values.now from at
-        (at + length value.now) (prefix spec.now.length (length value.now) ++ value.now)) }
+    ensures ok { IfOk result (λ next. (next ≤ at + length value.now)
+        × Continues out.old.items out.new.items (between values.now from at)
+        (prefix spec.now.length (length value.now) ++ value.now)
+        (between values.now next (at + length value.now))) }
     ensures kept { Keeps out.old.items out.new.items }
 {
     if spec.length == Length::Fixed {
@@ -118,8 +119,9 @@ fn append_by(
     requires order { from ≤ at }
     requires ascends { at ≤ end }
     requires within { end ≤ length values.now }
-    ensures written { IfOk result (Continues out.old.items out.new.items values.now from at end
-        (plain_part spec.now (between values.now at end))) }
+    ensures written { IfOk result (λ next. (next ≤ end)
+        × Continues out.old.items out.new.items (between values.now from at)
+        (plain_part spec.now (between values.now at end)) (between values.now next end)) }
     ensures spelled { OnOk result (Part spec.now (between values.now at end)
         (plain_part spec.now (between values.now at end))) }
     ensures fits { OnOk result (refusal spec.now (between values.now at end) ≡ None) }
@@ -156,8 +158,9 @@ fn append_part(
     requires order { from ≤ at }
     requires ascends { at ≤ end }
     requires within { end ≤ length values.now }
-    ensures written { IfOk result (Continues out.old.items out.new.items values.now from at end
-        (plain_of table.now.rows (n, between values.now at end))) }
+    ensures written { IfOk result (λ next. (next ≤ end)
+        × Continues out.old.items out.new.items (between values.now from at)
+        (plain_of table.now.rows (n, between values.now at end)) (between values.now next end)) }
     ensures spelled { OnOk result (PartAs table.now.rows n (between values.now at end)
         (plain_of table.now.rows (n, between values.now at end))) }
     ensures fits { OnOk result
@@ -314,6 +317,11 @@ pub fn append_message(table: &Table, message: &Message, out: &mut Vec<u8>) -> Re
     // element, by ascending number.
     ensures fault { IfErr result
         (λ e. e ≢ pack.Memory → message_refusal table.now message.now ≡ Some e) }
+    // Where the version is the table's, and memory aside, the fault is that of one element, and no
+    // element before it is refused.
+    ensures first { IfErr result
+        (λ e. e ≢ pack.Memory → message.now.mti / 1000 ≡ table.now.version
+        → IsFirstRefusal table.now.rows message.now.elements e) }
     // After a fault nothing is appended.
     ensures unchanged { OnErr result (out.new.items ≡ out.old.items) }
     // Whatever bytes follow it, what is appended reads as the message, and no byte more.
@@ -348,6 +356,11 @@ pub fn pack(alloc: Global, table: &Table, message: &Message) -> Result<Vec<u8>, 
     // element, by ascending number.
     ensures fault { IfErr result
         (λ e. e ≢ pack.Memory → message_refusal table.now message.now ≡ Some e) }
+    // Where the version is the table's, and memory aside, the fault is that of one element, and no
+    // element before it is refused.
+    ensures first { IfErr result
+        (λ e. e ≢ pack.Memory → message.now.mti / 1000 ≡ table.now.version
+        → IsFirstRefusal table.now.rows message.now.elements e) }
     // Whatever bytes follow it, what is written reads as the message, and no byte more.
     ensures again { IfOk result (λ out. (rest : List ℕ) → AreBytes rest →
         message_at table.now (out.items ++ rest) ≡ whole message.now (length out.items)) }

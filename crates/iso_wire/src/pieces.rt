@@ -14,7 +14,8 @@ use crate::fault::{UnpackCause, UnpackFault};
 use crate::front::{primary_of, secondary_of, type_of};
 use crate::judging::{ResumePoint, body_end};
 use crate::laws::are_bytes;
-use iso_parts::{Bitmap, judge_length, tells_another};
+use iso_parts::Bitmap;
+use iso_parts::raw::{judge_length, tells_another};
 use iso_table::Table;
 use std::marker::Model;
 

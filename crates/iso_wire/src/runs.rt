@@ -4,7 +4,7 @@ ghost use Rattle.std.specs.Prelude.{◌≡◌, ℕ, ◌+◌, ◌≤◌, ◌++◌
 ghost use Rattle.iso_parts.specs.Spec.{IsGood};
 ghost use Rattle.iso_wire.specs.Ends.{IsMadeOf};
 ghost use Rattle.iso_wire.specs.Reading.{value_at, value_by};
-ghost use Rattle.iso_wire.specs.Runs.{run_in, AppendsRun, IsBare};
+ghost use Rattle.iso_wire.specs.Runs.{run_of, run_in, AppendsRun, IsBare};
 
 use crate::bodies::judge_row;
 use crate::elements::Elements;
@@ -81,7 +81,7 @@ fn append_bare(
     requires bare { IsBare row.now }
     requires order { from ≤ at }
     requires within { at ≤ length bytes.now }
-    ensures exact { AppendsRun bytes.now elements.old elements.new from at result
+    ensures exact { AppendsRun (run_of bytes.now from at) elements.old elements.new result
         (value_by (Some row.now) n at (drop at bytes.now)) }
     ensures room { IfOk result (λ x. (x.0 ≤ x.1) × (x.1 ≤ length bytes.now)) }
 {
@@ -106,7 +106,7 @@ fn append_spelled(
     requires good { IsGood row.now }
     requires order { from ≤ at }
     requires within { at ≤ length bytes.now }
-    ensures exact { AppendsRun bytes.now elements.old elements.new from at result
+    ensures exact { AppendsRun (run_of bytes.now from at) elements.old elements.new result
         (value_by (Some row.now) n at (drop at bytes.now)) }
     ensures room { IfOk result (λ x. (x.0 ≤ x.1) × (x.1 ≤ length bytes.now)) }
 {
@@ -131,7 +131,7 @@ pub(crate) fn append_element(
 ) -> Result<(usize, usize), UnpackFault>
     requires order { from ≤ at }
     requires within { at ≤ length bytes.now }
-    ensures exact { AppendsRun bytes.now elements.old elements.new from at result
+    ensures exact { AppendsRun (run_of bytes.now from at) elements.old elements.new result
         (value_at table.now.rows n at (drop at bytes.now)) }
     ensures room { IfOk result (λ x. (x.0 ≤ x.1) × (x.1 ≤ length bytes.now)) }
 {

@@ -5,7 +5,7 @@ ghost use Rattle.iso_table.specs.Layout.{AreGood};
 ghost use Rattle.iso_table.specs.Sizes.{max_bytes};
 ghost use Rattle.iso_wire.specs.Unpacking.{read_into};
 ghost use Rattle.iso_wire.specs.Unpacker.{Feeds, FoundFed, StopsFed};
-ghost use Rattle.iso_wire.specs.Taking.{IsRead, IsBuilt, IsFront, KeepsTaken, IsReadyAfter, ResumesIn};
+ghost use Rattle.iso_wire.specs.Taking.{IsRead, IsBuilt, IsPieceOrFront, KeepsTaken, IsReadyAfter, ResumesIn};
 ghost use Rattle.iso_wire.specs.declared.fault.UnpackCause.{UnpackCause};
 ghost use Rattle.iso_wire.specs.declared.fault.UnpackCause.TheVariants.{Short};
 ghost use Rattle.iso_wire.specs.Reading.{halt, message_at, Unpacks};
@@ -268,7 +268,7 @@ pub(crate) fn missing(table: &Table, point: ResumePoint, taken: &[u8]) -> Unpack
 /// them; else no more than the longest message has.
 fn front_of<'p>(table: &Table, before: usize, room: usize, piece: &'p [u8]) -> &'p [u8]
     requires { before ≤ max_bytes table.now }
-    ensures { IsFront (max_bytes table.now - before) piece.now result.now }
+    ensures { IsPieceOrFront (max_bytes table.now - before) piece.now result.now }
 {
     if piece.len() <= room {
         return piece;

@@ -17,7 +17,8 @@ use crate::front::beginning_of;
 use crate::laws::{reads_spellings, stops};
 use crate::message::Message;
 use crate::runs::{append_element, copy_run};
-use iso_parts::{Bitmap, FieldFault, FieldSpec, LONGEST_VALUE, Mti, decode_value};
+use iso_parts::raw::{LONGEST_VALUE, decode_value};
+use iso_parts::{Bitmap, FieldFault, FieldSpec, Mti};
 use iso_table::Table;
 use std::alloc::Global;
 

@@ -7,7 +7,7 @@ ghost use Rattle.iso_wire.specs.declared.fault.UnpackCause.TheVariants.{Short, M
 ghost use Rattle.iso_wire.specs.Reading.{halt, message_at};
 ghost use Rattle.iso_wire.specs.Spelling.{AreBytes, BeginsWithNone, Parts};
 ghost use Rattle.iso_wire.specs.Stops.{Stops};
-ghost use Rattle.iso_wire.specs.Viewing.{Views, ViewsSpelled, IsViewed, Wired};
+ghost use Rattle.iso_wire.specs.Viewing.{Views, ViewsSpelled, IsViewed, SpellsBodies};
 
 use crate::bodies::{Bodies, View, outline_of};
 use crate::fault::UnpackFault;
@@ -62,7 +62,7 @@ pub fn view<'a>(table: &Table, bytes: &'a [u8]) -> Result<View<'a>, UnpackFault>
     ensures settled { IfErr result (λ e. e.cause ≢ Short → (x : List ℕ) → AreBytes x
         → BeginsWithNone table.now (bytes.now ++ x)) }
     // Bodies with their lengths before them are the parts of the elements.
-    ensures parts { (es ws : List (ℕ × List ℕ)) (b : List ℕ) → Wired table.now.rows es ws b
+    ensures parts { (es ws : List (ℕ × List ℕ)) (b : List ℕ) → SpellsBodies table.now.rows es ws b
         → Parts table.now.rows es b }
 {
     reads_spellings();

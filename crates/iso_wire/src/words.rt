@@ -7,7 +7,8 @@ ghost use Rattle.iso_parts.specs.declared.digits.Digits.TheVariants.{Ascii};
 ghost use Rattle.iso_wire.specs.Describing.{version_word, class_word, function_word, origin_word, type_line};
 ghost use Rattle.iso_wire.specs.DigitWords.{word_or};
 
-use iso_parts::{Mti, four_ascii_digits};
+use iso_parts::Mti;
+use iso_parts::raw::four_ascii_digits;
 use std::alloc::AllocError;
 
 /// The word for the version.

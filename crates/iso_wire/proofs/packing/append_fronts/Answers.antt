@@ -40,7 +40,7 @@ loop-end-preserved c =
     let all : List ℕ = c.args.out.now.items ++ flat_map f (elements_of (members c.args.numbers) 0 c.args.ends.now values) in
     let part = f (n, between values at end) in
     record {
-      written = one_more all c.loop-end.out.items c.append_part.new.out.items values part (flat_map f todo) c.loop-end.from at end c.in-Ok.next step (ap (λ (es : Values). c.loop-end.out.items ++ (between values c.loop-end.from at ++ flat_map f es)) (sym head) ∙ inv.written);
+      written = one_more all c.loop-end.out.items c.append_part.new.out.items values part (flat_map f todo) c.loop-end.from at end c.in-Ok.next step.1 (ap (λ (es : Values). c.loop-end.out.items ++ (between values c.loop-end.from at ++ flat_map f es)) (sym head) ∙ inv.written);
       order = step.0;
       ascend = own.1;
       count = omega (arith, inv.count, ap (λ (l : List ℕ). length l) is, ap (λ (l : List ℕ). length l) ns);

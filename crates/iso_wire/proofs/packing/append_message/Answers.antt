@@ -1,4 +1,5 @@
 use Rattle.std.proofs.Common.{Err, rules}
+use Rattle.iso_wire.proofs.FirstRefusals.{refused_first}
 use Rattle.iso_wire.proofs.Packs.{is_written, appended_again}
 use Rattle.iso_wire.proofs.packing.append_message.Goals as goal
 
@@ -11,3 +12,6 @@ returns-in-Err-clause-only c = is_written {T = Unit {0}} c.args.table.now c.args
 
 pub returns-in-Err-clause-unchanged : goal.returns-in-Err-clause-unchanged
 returns-in-Err-clause-unchanged c = search rules
+
+pub returns-in-Err-clause-first : goal.returns-in-Err-clause-first
+returns-in-Err-clause-first c = refused_first c.args.table.now c.args.message.now c.in-Err.fault c.in-Err.ensures.fault

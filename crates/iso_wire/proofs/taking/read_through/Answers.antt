@@ -3,7 +3,7 @@ use Rattle.std.specs.Prelude.{is_ok}
 use Rattle.iso_table.specs.Sizes.{max_bytes}
 use Rattle.iso_wire.specs.Reading.{message_at, Unpacks}
 use Rattle.iso_wire.specs.Spelling.{AreBytes}
-use Rattle.iso_wire.specs.Taking.{IsFront}
+use Rattle.iso_wire.specs.Taking.{IsPieceOrFront}
 use Rattle.iso_wire.specs.Unpacking.{read_into}
 use Rattle.iso_wire.proofs.Fronts.{front_tells, grown}
 use Rattle.iso_wire.proofs.taking.read_through.Goals as goal
@@ -18,6 +18,6 @@ returns-clause-exact c =
     let more : c.extend_from_slice.new.self.items ≡ old ++ front = grown (is_ok c.extend_from_slice.result) old front c.extend_from_slice.new.self.items c.extend_from_slice.ensures.items c.if-is_err.ensures.negation in
     let all : c.deref-2.result.now ≡ old ++ front = c.deref-2.ensures.value ∙ more in
     let bytes : AreBytes (old ++ front) = subst AreBytes (c.deref.ensures.value ∙ more) c.are_bytes.ensures in
-    let first : IsFront (max_bytes t - length old) piece front = subst (λ (n : ℕ). IsFront (max_bytes t - n) piece front) before c.front_of-front.ensures in
+    let first : IsPieceOrFront (max_bytes t - length old) piece front = subst (λ (n : ℕ). IsPieceOrFront (max_bytes t - n) piece front) before c.front_of-front.ensures in
     let tells = front_tells t old piece front c.parts.ensures c.reads_spellings.ensures.stays c.version-version.ensures.good bytes c.requires.small first in
     subst (Unpacks (read_into c.read_on-read.new.into c.read_on-read.result)) (ap (message_at t) all ∙ sym tells) c.read_on-read.ensures.exact

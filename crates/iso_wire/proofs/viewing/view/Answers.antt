@@ -1,5 +1,5 @@
 use Rattle.iso_wire.proofs.StopsLaws.{view_stops, stop_is_viewed}
-use Rattle.iso_wire.proofs.Views.{is_viewed, viewed_only, never_memory, view_refused, view_settled, Wired-Parts}
+use Rattle.iso_wire.proofs.Views.{is_viewed, viewed_only, never_memory, view_refused, view_settled, SpellsBodies-Parts}
 use Rattle.iso_wire.proofs.viewing.view.Goals as goal
 
 pub returns-clause-found : goal.returns-clause-found
@@ -24,4 +24,4 @@ pub returns-clause-settled : goal.returns-clause-settled
 returns-clause-settled c = view_settled c.reads_spellings.ensures.exact c.reads_spellings.ensures.stays c.args.table.now c.args.bytes.now c.view_of.result c.view_of.ensures.good c.view_of.ensures.fits c.view_of.ensures.exact
 
 pub returns-clause-parts : goal.returns-clause-parts
-returns-clause-parts c = λ es ws b h. Wired-Parts c.args.table.now.rows es ws b h
+returns-clause-parts c = λ es ws b h. SpellsBodies-Parts c.args.table.now.rows es ws b h
