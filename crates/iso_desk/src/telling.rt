@@ -39,8 +39,9 @@ pub fn tell_messages(
     input: &[u8],
 ) -> Result<Told, DeskFault>
     // What is told is what work on that input tells: of each of its messages, in their order.
-    ensures told { IfOk result (λ told. WorksOnInput work.entry form input.now
-        (Some []) (Some told.text.items) told.is_good) }
+    ensures told { IfOk result (λ told. WorksOnInput
+        (record { work = work.entry; form = form }) input.now
+        (record { old = Some []; new = Some told.text.items }) told.is_good) }
 {
     let mut text = Vec::new(alloc);
     let mut complaints = Vec::new(alloc);
@@ -68,7 +69,7 @@ pub fn make_bytes(alloc: Global, table: &Table, form: Form, text: &[u8]) -> Resu
     // At `Ok` the bytes are the plain spelling of each message, up to the first text that is
     // refused.
     ensures made { IfOk result (λ told. MakesAll table.now form text.now
-        (Some []) (Some told.text.items) told.is_good) }
+        (record { old = Some []; new = Some told.text.items }) told.is_good) }
 {
     let mut bytes = Vec::new(alloc);
     let mut complaints = Vec::new(alloc);

@@ -8,7 +8,7 @@ use crate::seen::{Seen, seen_of};
 use crate::sentences::{sentence, usual_cause};
 use crate::style::Ink;
 use crate::writing::{push_each, push_number};
-use iso_parts::judge_length;
+use iso_parts::raw::judge_length;
 use iso_wire::{Piece, PieceKind, UnpackCause};
 use std::alloc::AllocError;
 

@@ -5,7 +5,8 @@ ghost use Rattle.iso_explain.specs.Hints.{reads, fills, is_framed, is_blank, is_
 ghost use Rattle.iso_explain.specs.Hints.{is_bcd, begins_tpdu, is_likely, likely, likely_of};
 
 use hex::FromHexError;
-use iso_parts::{Digits, four_digits_in};
+use iso_parts::Digits;
+use iso_parts::raw::four_digits_in;
 use iso_table::{NoMemory, Table};
 use iso_wire::{Framed, Header, unframe, view};
 use std::alloc::{AllocError, Global};

@@ -9,7 +9,8 @@ use crate::page::{Page, Place};
 use crate::seen::{Seen, seen_of};
 use crate::style::{Ink, Style};
 use crate::writing::{push_number, push_shown};
-use iso_parts::{Bitmap, four_ascii_digits};
+use iso_parts::Bitmap;
+use iso_parts::raw::four_ascii_digits;
 use iso_wire::{Piece, PieceKind, Shown};
 use std::alloc::AllocError;
 

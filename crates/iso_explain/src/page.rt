@@ -2,7 +2,8 @@
 
 use crate::style::Style;
 use iso_names::Names;
-use iso_parts::{Bitmap, CharClass, FieldFault, Mti, decode_value, four_digits_in, tells_another};
+use iso_parts::raw::{decode_value, four_digits_in, tells_another};
+use iso_parts::{Bitmap, CharClass, FieldFault, Mti};
 use iso_table::Table;
 use std::alloc::{AllocError, Global};
 

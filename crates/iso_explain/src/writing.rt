@@ -5,7 +5,8 @@ ghost use Rattle.hex.specs.Hex.{encode_upper};
 ghost use Rattle.iso_wire.specs.Describing.{clear_text};
 ghost use Rattle.iso_explain.specs.Seen.{shown_as};
 
-use iso_parts::{CharClass, hex_digit};
+use iso_parts::CharClass;
+use iso_parts::raw::hex_digit;
 use iso_wire::Shown;
 use itoa::Buffer;
 use std::alloc::AllocError;

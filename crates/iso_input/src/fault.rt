@@ -3,7 +3,7 @@
 ghost use Rattle.std.specs.Prelude.{◌≡◌};
 ghost use Rattle.iso_input.specs.declared.fault.HexFault.TheVariants.{Memory};
 
-use std::alloc::{AllocError, AllocFailed};
+use std::alloc::AllocFailed;
 use thiserror::Error;
 
 /// The first thing that is wrong with a text of hexadecimal digits. Lines and columns count from 1.
@@ -40,14 +40,6 @@ pub enum HexFault {
     /// Memory ran out.
     #[error("memory ran out")]
     Memory,
-}
-
-impl From<AllocError> for HexFault {
-    ghost from_gives = { λ _ e. e ≡ Memory };
-
-    fn from(_e: AllocError) -> HexFault {
-        HexFault::Memory
-    }
 }
 
 impl<T: Drop> From<AllocFailed<T>> for HexFault {

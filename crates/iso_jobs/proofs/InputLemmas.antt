@@ -4,28 +4,28 @@ use Rattle.std.specs.Prelude.{IfOk, IfSome}
 use Rattle.std.specs.Io.KnownBytes.{Consumes, IsAtEnd}
 use Rattle.iso_wire.specs.declared.header.Header.{Header}
 use Rattle.iso_jobs.specs.Inputs.{HasBytesBy, IsDecoded, Opens, WorksOnBy, WorksOnInput}
-use Rattle.iso_jobs.specs.Work.{WorksOn}
+use Rattle.iso_jobs.specs.Outputs.{Output}
+use Rattle.iso_jobs.specs.Work.{Task, WorksOn}
 use Rattle.iso_jobs.specs.declared.fault.Stop.{Stop}
 use Rattle.iso_jobs.specs.declared.form.Form.{Form}
 use Rattle.iso_jobs.specs.declared.opening.Opened.{Opened}
 use Rattle.iso_jobs.specs.declared.opening.Opened.TheVariants as opened
-use Rattle.iso_jobs.specs.declared.work.Work.{Work}
 
 plain_of : (hex : Bool) → not hex ≡ true → hex ≡ false
 plain_of false h = refl
 plain_of true h = sym h
 
 -- what is done with the frames of an input is done with its bytes
-pub streamed : (w : Work) (form : Form) (h : Header) (before old new : Option (List ℕ)) (r : Result Bool Stop) → form.header ≡ Some h
-    → not form.is_hex ≡ true → IfOk r (λ good. IfSome before (λ all. WorksOn w form h all old new good))
-    → IfOk r (λ good. IfSome before (λ all. WorksOnInput w form all old new good))
-streamed w form h before old new (Err e) header plain works = tt
-streamed w form h None old new (Ok good) header plain works = tt
-streamed w form h (Some all) old new (Ok good) header plain works =
+pub streamed : (task : Task) (h : Header) (before : Option (List ℕ)) (output : Output) (r : Result Bool Stop) → task.form.header ≡ Some h
+    → not task.form.is_hex ≡ true → IfOk r (λ good. IfSome before (λ all. WorksOn task h all output good))
+    → IfOk r (λ good. IfSome before (λ all. WorksOnInput task all output good))
+streamed task h before output (Err e) header plain works = tt
+streamed task h None output (Ok good) header plain works = tt
+streamed task h (Some all) output (Ok good) header plain works =
     inl (
       all,
-      subst (λ (hex : Bool). HasBytesBy hex all all) (sym (plain_of form.is_hex plain)) refl,
-      subst (λ (o : Option Header). WorksOnBy o w form all old new good) (sym header) works,
+      subst (λ (hex : Bool). HasBytesBy hex all all) (sym (plain_of task.form.is_hex plain)) refl,
+      subst (λ (o : Option Header). WorksOnBy o task all output good) (sym header) works,
     )
 
 -- the digits of an input that was read whole are read

@@ -7,12 +7,10 @@ use Rattle.std.specs.Io.KnownBytes.{Appends, Consumes, Keeps}
 use Rattle.iso_wire.specs.Framing.{BadIsNoFrame, BadStays, Begins, NeedsMore, is_bad_header, NoFrame, Splits, frame_of, frames_of, largest}
 use Rattle.iso_wire.specs.declared.header.Header.{Header}
 use Rattle.iso_input.specs.Window.{Ahead, Grows}
-use Rattle.iso_jobs.specs.Frames.{Took, Waits, Ends}
-use Rattle.iso_jobs.specs.Work.{Tells, TellsEach, WorksOn, text_of, are_good}
+use Rattle.iso_jobs.specs.Frames.{Progress, TakesFrame, Waits, Ends}
+use Rattle.iso_jobs.specs.Work.{Task, Tells, TellsEach, WorksOn, text_of, are_good}
 use Rattle.iso_jobs.specs.declared.fault.Stop.{Stop}
-use Rattle.iso_jobs.specs.declared.form.Form.{Form}
 use Rattle.iso_jobs.specs.declared.pages.Pages.{Pages}
-use Rattle.iso_jobs.specs.declared.work.Work.{Work}
 
 -- what is told of the first body comes before what is told of the others
 told_first : (good : Bool) (text : List ℕ) (told : List (Bool × List ℕ)) → text_of ((good, text) ∷ told) ≡ text ++ text_of told
@@ -116,12 +114,12 @@ left_of now later left bytes is taken = go later (subst (λ (o : Option (List �
     go None taken = elim taken [ ]
     go (Some ys) taken = (ys, refl, taken)
 
-module _ (w : Work) (form : Form) (h : Header) where
+module _ (task : Task) (h : Header) where
   -- with whatever frames and rest the input goes on that is left, all of it are the frames so far and those; and so is what is told
   abbrev pub Goes : List ℕ → List ℕ → List ℕ → Bool → Type 0
   Goes all left text refused =
-      (bodies : List (List ℕ)) (rest : List ℕ) (told : List (Bool × List ℕ)) → Splits h left bodies rest → TellsEach w form bodies told
-      → (bs : List (List ℕ)) × (ts : List (Bool × List ℕ)) × Splits h all bs rest × TellsEach w form bs ts
+      (bodies : List (List ℕ)) (rest : List ℕ) (told : List (Bool × List ℕ)) → Splits h left bodies rest → TellsEach task bodies told
+      → (bs : List (List ℕ)) × (ts : List (Bool × List ℕ)) × Splits h all bs rest × TellsEach task bs ts
       × (text_of ts ≡ text ++ text_of told) × (are_good ts ≡ (not refused && are_good told))
 
   -- nothing was told yet
@@ -130,7 +128,7 @@ module _ (w : Work) (form : Form) (h : Header) where
 
   -- a frame was taken
   pub goes_on : (all left later text t body : List ℕ) (refused good : Bool) → Goes all left text refused → length body ≤ largest h
-      → left ≡ frame_of h body ++ later → Tells w form body (good, t) → Goes all later (text ++ t) (refused || not good)
+      → left ≡ frame_of h body ++ later → Tells task body (good, t) → Goes all later (text ++ t) (refused || not good)
   goes_on all left later text t body refused good old fits taken tells = λ bodies rest told splits each.
       let joined : left ≡ frames_of h (body ∷ bodies) ++ rest =
       taken ∙ ap (λ (l : List ℕ). frame_of h body ++ l) splits.joined ∙ sym (append_assoc (frame_of h body) (frames_of h bodies) rest) in
@@ -145,11 +143,13 @@ module _ (w : Work) (form : Form) (h : Header) where
       (all : List ℕ) → before ≡ Some all
       → (left : List ℕ) × (done : List ℕ) × (now ≡ Some left) × Appends old new done × Goes all left (done ++ pages.text.items) pages.has_refused
 
-  pub so_far_took : (before now later old new : Option (List ℕ)) (p q : Pages) → SoFar before now old new p → Took w form h now later p q
-      → SoFar before later old new q
-  so_far_took before now later old new p q so took = λ all is.
+  pub so_far_took : (before old new : Option (List ℕ)) (now later : Progress) → SoFar before now.window.ahead old new now.pages
+      → TakesFrame task h now later → SoFar before later.window.ahead old new later.pages
+  so_far_took before old new now later so took = λ all is.
       let s = so all is in
-      let l = left_of now later s.0 (frame_of h took.body) s.2 took.taken in
+      let p = now.pages in
+      let q = later.pages in
+      let l = left_of now.window.ahead later.window.ahead s.0 (frame_of h took.body) s.2 took.taken in
       let g = goes_on all s.0 l.0 (s.1 ++ p.text.items) took.text took.body p.has_refused took.good s.4 took.fits l.2 took.tells in
       let texts : (s.1 ++ p.text.items) ++ took.text ≡ s.1 ++ q.text.items =
       append_assoc s.1 p.text.items took.text ∙ sym (ap (λ (t : List ℕ). s.1 ++ t) took.added) in (
@@ -178,8 +178,8 @@ module _ (w : Work) (form : Form) (h : Header) where
 
   -- all is told where no frame begins what is left
   pub so_far_ends : (all left : List ℕ) (before now old mid new : Option (List ℕ)) (p : Pages) (has_rest good : Bool) → SoFar before now old mid p
-      → before ≡ Some all → now ≡ Some left → NoFrame h left → (has_rest ≡ false → left ≡ []) → Ends has_rest mid new p good
-      → WorksOn w form h all old new good
+      → before ≡ Some all → now ≡ Some left → NoFrame h left → (has_rest ≡ false → left ≡ []) → Ends has_rest (record { old = mid; new = new }) p good
+      → WorksOn task h all (record { old = old; new = new }) good
   so_far_ends all left before now old mid new p has_rest good so is here none clear ends =
       let s = so all is in
       let same : s.0 ≡ left = some_is s.0 left (sym s.2 ∙ here) in
@@ -202,10 +202,12 @@ module _ (w : Work) (form : Form) (h : Header) where
       }
 
   -- nothing was taken
-  pub so_far_waits : (before old new : Option (List ℕ)) (window after : Ahead) (p q : Pages) → SoFar before window.ahead old new p
-      → Waits window after p q → SoFar before after.ahead old new q
-  so_far_waits before old new window after p q so waits = λ all is.
-      let s = so all is in (
+  pub so_far_waits : (before old new : Option (List ℕ)) (now later : Progress) → SoFar before now.window.ahead old new now.pages
+      → Waits now later → SoFar before later.window.ahead old new later.pages
+  so_far_waits before old new now later so waits = λ all is.
+      let s = so all is in
+      let p = now.pages in
+      let q = later.pages in (
         s.0,
         s.1,
         ap (λ (x : Ahead). x.ahead) waits.window ∙ s.2,
@@ -216,8 +218,8 @@ module _ (w : Work) (form : Form) (h : Header) where
 
   -- what was told at the end
   pub all_told : (before now old mid new : Option (List ℕ)) (p : Pages) (has_rest : Bool) (r : Result Bool Stop) → SoFar before now old mid p
-      → IfSome now (λ left. NoFrame h left × (has_rest ≡ false → left ≡ [])) → IfOk r (Ends has_rest mid new p)
-      → IfOk r (λ good. IfSome before (λ all. WorksOn w form h all old new good))
+      → IfSome now (λ left. NoFrame h left × (has_rest ≡ false → left ≡ [])) → IfOk r (Ends has_rest (record { old = mid; new = new }) p)
+      → IfOk r (λ good. IfSome before (λ all. WorksOn task h all (record { old = old; new = new }) good))
   all_told before now old mid new p has_rest (Err e) so facts ends = tt
   all_told None now old mid new p has_rest (Ok good) so facts ends = tt
   all_told (Some all) now old mid new p has_rest (Ok good) so facts ends =

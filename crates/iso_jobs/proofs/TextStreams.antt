@@ -4,14 +4,12 @@ use Rattle.std.specs.List.{list_all}
 use Rattle.std.specs.Prelude.{IfOk, IfSome}
 use Rattle.std.specs.Io.KnownBytes.{Appends, Consumes, Keeps}
 use Rattle.iso_input.specs.Window.{Ahead}
-use Rattle.iso_jobs.specs.Encoding.{Closes, Takes, unless}
-use Rattle.iso_jobs.specs.Frames.{Waits}
+use Rattle.iso_jobs.specs.Encoding.{Closes, Takes, Target, unless}
+use Rattle.iso_jobs.specs.Frames.{Progress, Waits}
 use Rattle.iso_jobs.specs.Making.{IsText, MakesAll, MakesEach, MakesOne, joined, output_of}
 use Rattle.iso_jobs.specs.declared.fault.Stop.{Stop}
-use Rattle.iso_jobs.specs.declared.form.Form.{Form}
 use Rattle.iso_jobs.specs.declared.pages.Pages.{Pages}
 use Rattle.iso_jobs.proofs.Streams.{appends_on, kept_some, left_of, good_first}
-use Rattle.iso_table.specs.Layout.{Layout}
 
 abbrev pub are_made : List (Bool × List ℕ) → Bool
 are_made made = list_all (λ x. x.0) made
@@ -24,25 +22,25 @@ output_on false true before out rest none = sym (append_assoc before out rest)
 output_on false false before out rest none =
     sym (append-nil (before ++ out) ∙ ap (λ (l : List ℕ). before ++ l) (none refl))
 
-module _ (t : Layout) (form : Form) where
+module _ (target : Target) where
   -- with whatever texts the input goes on that is left, all of it are the texts so far and those; and so is what is made
   abbrev pub GoesBy : List ℕ → List ℕ → List ℕ → Bool → Type 0
   GoesBy all left text refused =
-      (texts : List (List ℕ)) (made : List (Bool × List ℕ)) → left ≡ joined texts → MakesEach t form texts made
-      → (ts : List (List ℕ)) × (ms : List (Bool × List ℕ)) × (all ≡ joined ts) × MakesEach t form ts ms
+      (texts : List (List ℕ)) (made : List (Bool × List ℕ)) → left ≡ joined texts → MakesEach target.table target.form texts made
+      → (ts : List (List ℕ)) × (ms : List (Bool × List ℕ)) × (all ≡ joined ts) × MakesEach target.table target.form ts ms
       × (output_of ms ≡ text ++ unless refused (output_of made)) × (are_made ms ≡ (not refused && are_made made))
 
   -- nothing was made yet
   pub begins_by : (all : List ℕ) → GoesBy all all [] false
   begins_by all = λ texts made is each. (texts, made, is, each, refl, refl)
 
-  none_made : (text : List ℕ) (ok : Bool) (out : List ℕ) → MakesOne t form text (ok, out) → ok ≡ false → out ≡ []
+  none_made : (text : List ℕ) (ok : Bool) (out : List ℕ) → MakesOne target.table target.form text (ok, out) → ok ≡ false → out ≡ []
   none_made text true out makes is = absurd (grind arith)
   none_made text false out makes is = makes.1
 
   -- a text was taken
   pub goes_on_by : (all left later sofar text out : List ℕ) (refused ok : Bool) → GoesBy all left sofar refused → IsText text
-      → left ≡ text ++ later → MakesOne t form text (ok, out) → GoesBy all later (sofar ++ unless refused out) (refused || not ok)
+      → left ≡ text ++ later → MakesOne target.table target.form text (ok, out) → GoesBy all later (sofar ++ unless refused out) (refused || not ok)
   goes_on_by all left later sofar text out refused ok old is taken makes = λ texts made joined each.
       let r = old (text ∷ texts) ((ok, out) ∷ made) (taken ∙ ap (λ (l : List ℕ). text ++ l) joined) ((ok, out), made, is, makes, each, refl) in (
         r.0,
@@ -59,11 +57,14 @@ module _ (t : Layout) (form : Form) where
       (all : List ℕ) → before ≡ Some all
       → (left : List ℕ) × (done : List ℕ) × (now ≡ Some left) × Appends old new done × GoesBy all left (done ++ pages.text.items) pages.has_refused
 
-  pub made_took : (before now later old new : Option (List ℕ)) (p q : Pages) (text : List ℕ) → MadeSoFar before now old new p → IsText text
-      → Consumes now later text → Takes t form text p q → MadeSoFar before later old new q
-  made_took before now later old new p q text so is taken takes = λ all e.
+  pub made_took : (before old new : Option (List ℕ)) (now later : Progress) (text : List ℕ) → MadeSoFar before now.window.ahead old new now.pages
+      → IsText text → Consumes now.window.ahead later.window.ahead text → Takes target text now.pages later.pages
+      → MadeSoFar before later.window.ahead old new later.pages
+  made_took before old new now later text so is taken takes = λ all e.
       let s = so all e in
-      let l = left_of now later s.0 text s.2 taken in
+      let p = now.pages in
+      let q = later.pages in
+      let l = left_of now.window.ahead later.window.ahead s.0 text s.2 taken in
       let g = goes_on_by all s.0 l.0 (s.1 ++ p.text.items) text takes.out p.has_refused takes.ok s.4 is l.2 takes.makes in
       let texts : (s.1 ++ p.text.items) ++ unless p.has_refused takes.out ≡ s.1 ++ q.text.items =
       append_assoc s.1 p.text.items (unless p.has_refused takes.out) ∙ sym (ap (λ (x : List ℕ). s.1 ++ x) takes.added) in (
@@ -91,10 +92,12 @@ module _ (t : Layout) (form : Form) where
       )
 
   -- nothing was taken
-  pub made_waits : (before old new : Option (List ℕ)) (window after : Ahead) (p q : Pages) → MadeSoFar before window.ahead old new p
-      → Waits window after p q → MadeSoFar before after.ahead old new q
-  made_waits before old new window after p q so waits = λ all is.
-      let s = so all is in (
+  pub made_waits : (before old new : Option (List ℕ)) (now later : Progress) → MadeSoFar before now.window.ahead old new now.pages
+      → Waits now later → MadeSoFar before later.window.ahead old new later.pages
+  made_waits before old new now later so waits = λ all is.
+      let s = so all is in
+      let p = now.pages in
+      let q = later.pages in (
         s.0,
         s.1,
         ap (λ (x : Ahead). x.ahead) waits.window ∙ s.2,
@@ -105,8 +108,8 @@ module _ (t : Layout) (form : Form) where
 
   -- what was made at the end, of the last text that was left
   pub all_made : (before now old mid new : Option (List ℕ)) (p : Pages) (rest : List ℕ) (r : Result Bool Stop) → MadeSoFar before now old mid p
-      → IfSome now (λ left. left ≡ rest) → IsText rest → IfOk r (Closes t form rest p mid new)
-      → IfOk r (λ good. IfSome before (λ all. MakesAll t form all old new good))
+      → IfSome now (λ left. left ≡ rest) → IsText rest → IfOk r (Closes target rest p (record { old = mid; new = new }))
+      → IfOk r (λ good. IfSome before (λ all. MakesAll target.table target.form all (record { old = old; new = new }) good))
   all_made before now old mid new p rest (Err e) so last is closes = tt
   all_made None now old mid new p rest (Ok good) so last is closes = tt
   all_made (Some all) now old mid new p rest (Ok good) so last is closes =

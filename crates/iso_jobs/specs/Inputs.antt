@@ -4,11 +4,11 @@ use Rattle.std.specs.Io.KnownBytes.{Appends}
 use Rattle.iso_wire.specs.declared.header.Header.{Header}
 use Rattle.iso_input.specs.Dump.{hex_bytes}
 use Rattle.iso_input.specs.declared.fault.HexFault.{HexFault}
-use Rattle.iso_jobs.specs.Work.{Tells, WorksOn}
+use Rattle.iso_jobs.specs.Outputs.{Output}
+use Rattle.iso_jobs.specs.Work.{Task, Tells, WorksOn}
 use Rattle.iso_jobs.specs.declared.form.Form.{Form}
 use Rattle.iso_jobs.specs.declared.opening.Opened.{Opened}
 use Rattle.iso_jobs.specs.declared.opening.Opened.TheVariants as opened
-use Rattle.iso_jobs.specs.declared.work.Work.{Work}
 
 -- ---- what an input has
 
@@ -46,18 +46,17 @@ Opens form all (opened.Refused trouble) = IsNotRead form all
 -- ---- what is done
 
 -- the output grows by what is told of the one message that bytes are, or of each body of their frames
-abbrev pub WorksOnBy : Option Header → Work → Form → List ℕ → Option (List ℕ) → Option (List ℕ)
-    → Bool → Type 0
-WorksOnBy None w form bytes old new good = (text : List ℕ) × Tells w form bytes (good, text)
-    × Appends old new text
-WorksOnBy (Some h) w form bytes old new good = WorksOn w form h bytes old new good
+abbrev pub WorksOnBy : Option Header → Task → List ℕ → Output → Bool → Type 0
+WorksOnBy None task bytes output good = (text : List ℕ) × Tells task bytes (good, text)
+    × Appends output.old output.new text
+WorksOnBy (Some h) task bytes output good = WorksOn task h bytes output good
 
 -- the same by the header that the form has, or has not
-abbrev pub WorksOnBytes : Work → Form → List ℕ → Option (List ℕ) → Option (List ℕ) → Bool → Type 0
-WorksOnBytes w form bytes old new good = WorksOnBy form.header w form bytes old new good
+abbrev pub WorksOnBytes : Task → List ℕ → Output → Bool → Type 0
+WorksOnBytes task bytes output good = WorksOnBy task.form.header task bytes output good
 
 -- so it does for the bytes that the input has; or nothing is written, since it isn't read
-abbrev pub WorksOnInput : Work → Form → List ℕ → Option (List ℕ) → Option (List ℕ) → Bool → Type 0
-WorksOnInput w form all old new good =
-    ((bytes : List ℕ) × HasBytes form all bytes × WorksOnBytes w form bytes old new good)
-    ⊎ (IsNotRead form all × (good ≡ false) × Appends old new [])
+abbrev pub WorksOnInput : Task → List ℕ → Output → Bool → Type 0
+WorksOnInput task all output good =
+    ((bytes : List ℕ) × HasBytes task.form all bytes × WorksOnBytes task bytes output good)
+    ⊎ (IsNotRead task.form all × (good ≡ false) × Appends output.old output.new [])

@@ -1,3 +1,4 @@
+pub mod Outputs
 pub mod Complaints
 pub mod Whole
 pub mod Written

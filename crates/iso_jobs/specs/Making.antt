@@ -9,6 +9,7 @@ use Rattle.iso_json.specs.Said.{IsMessage}
 use Rattle.iso_table.specs.Layout.{Layout}
 use Rattle.iso_wire.specs.Contents.{Contents}
 use Rattle.iso_wire.specs.Spelling.{PlainSpelling}
+use Rattle.iso_jobs.specs.Outputs.{Output, Text}
 use Rattle.iso_jobs.specs.Written.{exceeds, written}
 use Rattle.iso_jobs.specs.declared.form.Form.{Form}
 use Rattle.iso_jobs.specs.declared.making.MakeRefusal.{MakeRefusal}
@@ -44,10 +45,10 @@ IsLineSize held None = IsLine held
 
 -- ---- one text
 
--- why there is no spelling
-abbrev pub refusal_of : json.Refusal → MakeRefusal
-refusal_of (jsons.Complaints cs) = refusals.Complaints cs
-refusal_of jsons.Memory = refusals.Memory
+-- why nothing is made of a text of JSON: what is wrong with it, or want of memory
+abbrev pub refusal_of_json : json.Refusal → MakeRefusal
+refusal_of_json (jsons.Complaints cs) = refusals.Complaints cs
+refusal_of_json jsons.Memory = refusals.Memory
 
 -- the bytes are the plain spelling of the message that the text says
 abbrev pub SpellsBy : Bool → Layout → List ℕ → List ℕ → Type 0
@@ -76,10 +77,11 @@ abbrev pub Refuses : Layout → Form → List ℕ → Type 0
 Refuses t form text = RefusesBy (is_json text) t form text
 
 -- what came of a text; nothing is said where memory ran out
-abbrev pub Made : Layout → Form → List ℕ → List ℕ → List ℕ → Result (Unit {0}) MakeRefusal → Type 0
-Made t form text old new (Ok done) = (out : List ℕ) × Makes t form text out × (new ≡ old ++ out)
-Made t form text old new (Err refusals.Memory) = Unit {0}
-Made t form text old new (Err e) = Refuses t form text × (new ≡ old)
+abbrev pub Outcome : Layout → Form → List ℕ → Text → Result (Unit {0}) MakeRefusal → Type 0
+Outcome t form text body (Ok done) = (out : List ℕ) × Makes t form text out
+    × (body.new ≡ body.old ++ out)
+Outcome t form text body (Err refusals.Memory) = Unit {0}
+Outcome t form text body (Err e) = Refuses t form text × (body.new ≡ body.old)
 
 -- ---- all texts of an input
 
@@ -111,11 +113,11 @@ output_of [] = []
 output_of (first ∷ later) = if first.0 then first.1 ++ output_of later else []
 
 -- the output grows by the messages that the texts of the input say, up to the first that is refused; all is well where none is
-pub record MakesAll (t : Layout) (form : Form) (all : List ℕ) (old new : Option (List ℕ))
+pub record MakesAll (t : Layout) (form : Form) (all : List ℕ) (output : Output)
     (good : Bool) : Type 0 where
   pub texts : List (List ℕ)
   pub made : List (Bool × List ℕ)
   pub whole : all ≡ joined texts
   pub each : MakesEach t form texts made
-  pub written : Appends old new (output_of made)
+  pub written : Appends output.old output.new (output_of made)
   pub all_good : good ≡ list_all (λ x. x.0) made

@@ -5,7 +5,7 @@ use Rattle.iso_wire.specs.Contents.{Contents}
 use Rattle.iso_wire.specs.Spelling.{Spelling, Converts}
 use Rattle.iso_wire.specs.declared.fault.PackFault.{PackFault}
 use Rattle.iso_wire.specs.declared.fault.PackFault.TheVariants as faults
-use Rattle.iso_names.specs.Own.{Laid}
+use Rattle.iso_names.specs.Own.{NetworkNames}
 use Rattle.iso_explain.specs.NamedLines.{NamedDescription}
 use Rattle.iso_json.specs.Written.{json_of}
 use Rattle.iso_jobs.specs.Whole.{IsNoMessage}
@@ -19,24 +19,37 @@ use Rattle.iso_jobs.specs.declared.refusal.Trouble.TheVariants as troubles
 abbrev pub ending : Bool → List ℕ
 ending is_framed = if is_framed then 10 ∷ [] else []
 
+-- how lines are told: with which names of elements, whether card data are shown, and whether an empty line ends them
+pub record LineStyle : Type 0 where
+  pub names : NetworkNames
+  pub is_clear : Bool
+  pub is_framed : Bool
+
 -- the lines of the message that the bytes are, with the names of its elements
-abbrev pub TellsLines : Layout → Laid → Bool → Bool → List ℕ → List ℕ → Type 0
-TellsLines t names is_clear is_framed b text =
-    (m : Contents) × (lines : List ℕ) × Spelling t m b × NamedDescription is_clear t names m lines
-    × (text ≡ lines ++ ending is_framed)
+abbrev pub TellsLines : Layout → LineStyle → List ℕ → List ℕ → Type 0
+TellsLines t style b text =
+    (m : Contents) × (lines : List ℕ) × Spelling t m b
+    × NamedDescription style.is_clear t style.names m lines
+    × (text ≡ lines ++ ending style.is_framed)
 
 -- the line of JSON of the message that the bytes are
 abbrev pub TellsJson : Layout → Bool → List ℕ → List ℕ → Type 0
 TellsJson t is_clear b text = (m : Contents) × Spelling t m b
     × (text ≡ json_of is_clear t m ++ 10 ∷ [])
 
+-- the table that a message is read by, and the one that it is written by
+pub record Tables : Type 0 where
+  pub from : Layout
+  pub to : Layout
+
 -- what was skipped, and the plain spelling of the message under the second table
-abbrev pub Converted : Layout → Layout → List ℕ → List ℕ → List ℕ → Type 0
-Converted f t front b body = (spelled : List ℕ) × Converts f t b spelled × (body ≡ front ++ spelled)
+abbrev pub Conversion : Tables → List ℕ → List ℕ → List ℕ → Type 0
+Conversion tables front b body = (spelled : List ℕ) × Converts tables.from tables.to b spelled
+    × (body ≡ front ++ spelled)
 
 -- what was skipped and that spelling, as the output has them
-abbrev pub TellsConverted : Layout → Layout → Form → List ℕ → List ℕ → List ℕ → Type 0
-TellsConverted f t form front b text = (body : List ℕ) × Converted f t front b body
+abbrev pub TellsConverted : Tables → Form → List ℕ → List ℕ → List ℕ → Type 0
+TellsConverted tables form front b text = (body : List ℕ) × Conversion tables front b body
     × (text ≡ written form body)
 
 -- the message has no bytes under the table
@@ -44,14 +57,15 @@ abbrev pub HasNoSpelling : Layout → Contents → Type 0
 HasNoSpelling t m = (b : List ℕ) → Spelling t m b → ⊥
 
 -- the bytes are no message of the first table, or one that has no bytes under the second
-abbrev pub HasNoConversion : Layout → Layout → List ℕ → Type 0
-HasNoConversion f t b = IsNoMessage f b ⊎ ((m : Contents) × Spelling f m b × HasNoSpelling t m)
+abbrev pub HasNoConversion : Tables → List ℕ → Type 0
+HasNoConversion tables b = IsNoMessage tables.from b
+    ⊎ ((m : Contents) × Spelling tables.from m b × HasNoSpelling tables.to m)
 
 -- there is no such message, or its frame can't count it
-abbrev pub IsNotConverted : Layout → Layout → Form → List ℕ → List ℕ → Type 0
-IsNotConverted f t form front b =
-    HasNoConversion f t b
-    ⊎ ((body : List ℕ) × Converted f t front b body × (exceeds form.header body ≡ true))
+abbrev pub IsNotConverted : Tables → Form → List ℕ → List ℕ → Type 0
+IsNotConverted tables form front b =
+    HasNoConversion tables b
+    ⊎ ((body : List ℕ) × Conversion tables front b body × (exceeds form.header body ≡ true))
 
 -- want of memory, or what the second table says
 abbrev pub refusal_of_pack : PackFault → Refusal

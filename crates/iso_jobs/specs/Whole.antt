@@ -15,10 +15,10 @@ abbrev pub IsNoMessage : Layout → List ℕ → Type 0
 IsNoMessage t b = (m : Contents) → Spelling t m b → ⊥
 
 -- by its cause: want of memory, or what is wrong with the bytes
-abbrev pub refusal_by : UnpackFault → UnpackCause → Refusal
-refusal_by e causes.Memory = refusals.Memory
-refusal_by e cause = refusals.Refused (troubles.Unpack e)
+abbrev pub refusal_by_cause : UnpackFault → UnpackCause → Refusal
+refusal_by_cause e causes.Memory = refusals.Memory
+refusal_by_cause e cause = refusals.Refused (troubles.Unpack e)
 
 -- want of memory, or what is wrong with the bytes
-abbrev pub refusal_of : UnpackFault → Refusal
-refusal_of e = refusal_by e e.cause
+abbrev pub refusal_of_unpack : UnpackFault → Refusal
+refusal_of_unpack e = refusal_by_cause e e.cause

@@ -7,24 +7,39 @@ use Rattle.iso_wire.specs.Contents.{Contents}
 use Rattle.iso_wire.specs.Framing.{Splits}
 use Rattle.iso_wire.specs.Spelling.{Spelling}
 use Rattle.iso_wire.specs.declared.header.Header.{Header}
+use Rattle.iso_jobs.specs.Outputs.{Output, Text}
 use Rattle.iso_jobs.specs.Telling.{TellsLines, TellsJson, TellsConverted, IsNotConverted}
 use Rattle.iso_jobs.specs.Whole.{IsNoMessage}
 use Rattle.iso_jobs.specs.declared.form.Form.{Form}
+use Rattle.iso_jobs.specs.declared.job.Job.{Job}
 use Rattle.iso_jobs.specs.declared.refusal.Refusal.{Refusal}
 use Rattle.iso_jobs.specs.declared.refusal.Refusal.TheVariants as refusals
 use Rattle.iso_jobs.specs.declared.work.Work.{Work}
 use Rattle.iso_jobs.specs.declared.work.Work.TheVariants as works
+
+-- ---- what is done, and with messages in which form
+
+-- what is done with messages, and how these lie in an input and in an output
+pub record Task : Type 0 where
+  pub work : Work
+  pub form : Form
+
+-- the task of a job
+abbrev pub task_of : Job → Task
+task_of job = record { work = job.work; form = job.form }
 
 -- ---- one message, behind the bytes that are skipped
 
 -- the bytes are a message, and this is told of it
 abbrev pub TellsGood : Work → Form → List ℕ → List ℕ → List ℕ → Type 0
 TellsGood (works.Lines t names c) form front b text =
-    TellsLines t.now names.now c (is_some form.header) b text
+    TellsLines t.now
+    (record { names = names.now; is_clear = c; is_framed = is_some form.header }) b text
 TellsGood (works.Json t c) form front b text = TellsJson t.now c b text
 TellsGood (works.Explain t names style) form front b text = (m : Contents) × Spelling t.now m b
 TellsGood (works.ExplainJson t names c) form front b text = (m : Contents) × Spelling t.now m b
-TellsGood (works.Convert f t) form front b text = TellsConverted f.now t.now form front b text
+TellsGood (works.Convert f t) form front b text =
+    TellsConverted (record { from = f.now; to = t.now }) form front b text
 
 -- the bytes are no message, or one that has no bytes under the second table
 abbrev pub IsBad : Work → Form → List ℕ → List ℕ → Type 0
@@ -32,7 +47,8 @@ IsBad (works.Lines t names c) form front b = IsNoMessage t.now b
 IsBad (works.Json t c) form front b = IsNoMessage t.now b
 IsBad (works.Explain t names style) form front b = IsNoMessage t.now b
 IsBad (works.ExplainJson t names c) form front b = IsNoMessage t.now b
-IsBad (works.Convert f t) form front b = IsNotConverted f.now t.now form front b
+IsBad (works.Convert f t) form front b =
+    IsNotConverted (record { from = f.now; to = t.now }) form front b
 
 -- what is told of bytes that are bad: nothing, but for an explanation
 abbrev pub TellsFault : Work → List ℕ → Type 0
@@ -59,43 +75,44 @@ TellsBad (works.ExplainJson t names c) form text = Unit {0}
 TellsBad (works.Convert f t) form text = text ≡ []
 
 -- what was told of the bytes so far; nothing is said where memory ran out
-abbrev pub TellsBehind : Work → Form → List ℕ → List ℕ → List ℕ → List ℕ → Result (Unit {0}) Refusal
-    → Type 0
-TellsBehind w form front b old new (Ok done) = (text : List ℕ) × TellsGood w form front b text
-    × (new ≡ old ++ text)
-TellsBehind w form front b old new (Err (refusals.Refused trouble)) =
-    (text : List ℕ) × IsBad w form front b × TellsFault w text × (new ≡ old ++ text)
-TellsBehind w form front b old new (Err refusals.Memory) = Unit {0}
+abbrev pub TellsBehind : Task → List ℕ → List ℕ → Text → Result (Unit {0}) Refusal → Type 0
+TellsBehind task front b out (Ok done) =
+    (text : List ℕ) × TellsGood task.work task.form front b text × (out.new ≡ out.old ++ text)
+TellsBehind task front b out (Err (refusals.Refused trouble)) =
+    (text : List ℕ) × IsBad task.work task.form front b × TellsFault task.work text
+    × (out.new ≡ out.old ++ text)
+TellsBehind task front b out (Err refusals.Memory) = Unit {0}
 
 -- ---- one body
 
 -- the body is too short, or bad behind the bytes that are skipped
-abbrev pub IsRefused : Work → Form → List ℕ → Type 0
-IsRefused w form body = (length body < form.skip)
-    ⊎ IsBad w form (take form.skip body) (drop form.skip body)
+abbrev pub IsRefused : Task → List ℕ → Type 0
+IsRefused task body = (length body < task.form.skip)
+    ⊎ IsBad task.work task.form (take task.form.skip body) (drop task.form.skip body)
 
 -- what is told of a body: whether it is good, and the text
-abbrev pub Tells : Work → Form → List ℕ → Bool × List ℕ → Type 0
-Tells w form body (true, text) = (form.skip ≤ length body)
-    × TellsGood w form (take form.skip body) (drop form.skip body) text
-Tells w form body (false, text) = IsRefused w form body × TellsBad w form text
+abbrev pub Tells : Task → List ℕ → Bool × List ℕ → Type 0
+Tells task body (true, text) = (task.form.skip ≤ length body)
+    × TellsGood task.work task.form (take task.form.skip body) (drop task.form.skip body) text
+Tells task body (false, text) = IsRefused task body × TellsBad task.work task.form text
 
 -- what was told of a body so far; nothing is said where memory ran out
-abbrev pub TellsBody : Work → Form → List ℕ → List ℕ → List ℕ → Result (Unit {0}) Refusal → Type 0
-TellsBody w form body old new (Ok done) = (text : List ℕ) × Tells w form body (true, text)
-    × (new ≡ old ++ text)
-TellsBody w form body old new (Err (refusals.Refused trouble)) =
-    (text : List ℕ) × IsRefused w form body × TellsFault w text × (new ≡ old ++ text)
-TellsBody w form body old new (Err refusals.Memory) = Unit {0}
+abbrev pub TellsBody : Task → List ℕ → Text → Result (Unit {0}) Refusal → Type 0
+TellsBody task body out (Ok done) = (text : List ℕ) × Tells task body (true, text)
+    × (out.new ≡ out.old ++ text)
+TellsBody task body out (Err (refusals.Refused trouble)) =
+    (text : List ℕ) × IsRefused task body × TellsFault task.work text
+    × (out.new ≡ out.old ++ text)
+TellsBody task body out (Err refusals.Memory) = Unit {0}
 
 -- ---- all bodies of a stream
 
 -- what is told of each body, in their order
-abbrev pub TellsEach : Work → Form → List (List ℕ) → List (Bool × List ℕ) → Type 0
-TellsEach w form [] told = told ≡ []
-TellsEach w form (body ∷ bodies) told =
-    (first : Bool × List ℕ) × (later : List (Bool × List ℕ)) × Tells w form body first
-    × TellsEach w form bodies later × (told ≡ first ∷ later)
+abbrev pub TellsEach : Task → List (List ℕ) → List (Bool × List ℕ) → Type 0
+TellsEach task [] told = told ≡ []
+TellsEach task (body ∷ bodies) told =
+    (first : Bool × List ℕ) × (later : List (Bool × List ℕ)) × Tells task body first
+    × TellsEach task bodies later × (told ≡ first ∷ later)
 
 -- the texts, one after another
 abbrev pub text_of : List (Bool × List ℕ) → List ℕ
@@ -107,13 +124,13 @@ are_good told = list_all (λ x. x.0) told
 
 -- the output grows by what is told of each body of the stream, and perhaps of a rest that is no frame; all is well only where
 -- each body is good, and no rest is there
-pub record WorksOn (w : Work) (form : Form) (h : Header) (all : List ℕ) (old new : Option (List ℕ))
+pub record WorksOn (task : Task) (h : Header) (all : List ℕ) (output : Output)
     (good : Bool) : Type 0 where
   pub bodies : List (List ℕ)
   pub rest : List ℕ
   pub told : List (Bool × List ℕ)
   pub last : List ℕ
   pub splits : Splits h all bodies rest
-  pub each : TellsEach w form bodies told
-  pub written : Appends old new (text_of told ++ last)
+  pub each : TellsEach task bodies told
+  pub written : Appends output.old output.new (text_of told ++ last)
   pub all_good : good ≡ true → (are_good told ≡ true) × (rest ≡ []) × (last ≡ [])

@@ -1,7 +1,7 @@
 //! Messages that are made of the texts of an input.
 
 ghost use Rattle.std.specs.Prelude.{◌≡◌, ◌≢◌, true, IfOk, IfSome, OnOk};
-ghost use Rattle.iso_jobs.specs.Encoding.{Cuts, Takes, MadeUnless, Closes};
+ghost use Rattle.iso_jobs.specs.Encoding.{Cuts, Takes, OutcomeUnless, Closes, target_of};
 ghost use Rattle.iso_jobs.specs.Making.{MakesAll};
 ghost use Rattle.iso_jobs.specs.declared.making.MakeRefusal.TheVariants.{Memory};
 
@@ -112,8 +112,8 @@ fn make_unless(
     text: &[u8],
     out: &mut Vec<u8>,
 ) -> Result<(), MakeRefusal>
-    ensures { MadeUnless making.entry.table.now making.entry.form has_refused text.now
-        out.old.items out.new.items result }
+    ensures { OutcomeUnless (target_of making.entry) has_refused text.now
+        (record { old = out.old.items; new = out.new.items }) result }
 {
     let (alloc, table, form) = (making.alloc, making.table, making.form);
     if has_refused {
@@ -130,8 +130,7 @@ fn take_message(
     text: &[u8],
     pages: &mut Pages,
 ) -> Result<(), AllocError>
-    ensures { OnOk result
-        (Takes making.entry.table.now making.entry.form text.now pages.old pages.new) }
+    ensures { OnOk result (Takes (target_of making.entry) text.now pages.old pages.new) }
 {
     if cursor.has_message && making.form.header.is_none() {
         complain_of_line(making, cursor.lines, Trouble::Second, pages)?;
@@ -152,8 +151,7 @@ fn take_text(
     text: &[u8],
     pages: &mut Pages,
 ) -> Result<(), AllocError>
-    ensures { OnOk result
-        (Takes making.entry.table.now making.entry.form text.now pages.old pages.new) }
+    ensures { OnOk result (Takes (target_of making.entry) text.now pages.old pages.new) }
 {
     if !is_blank(text) {
         take_message(making, cursor, text, pages)?;
@@ -170,7 +168,8 @@ fn step<R: Read + Drop>(
     pages: &mut Pages,
 ) -> Result<bool, Stop>
     ensures { IfOk result
-        (Cuts making.entry.table.now making.entry.form window.old window.new pages.old pages.new) }
+        (Cuts (target_of making.entry) (record { window = window.old; pages = pages.old })
+        (record { window = window.new; pages = pages.new })) }
 {
     let held = window.held();
     let Some(size) = first_text(held) else {
@@ -191,8 +190,8 @@ fn close<O: Write, F: Write>(
     output: &mut O,
     faults: &mut F,
 ) -> Result<bool, Stop>
-    ensures { IfOk result (Closes making.entry.table.now making.entry.form rest.now pages.old
-        (O.contents output.old) (O.contents output.new)) }
+    ensures { IfOk result (Closes (target_of making.entry) rest.now pages.old
+        (record { old = O.contents output.old; new = O.contents output.new })) }
 {
     take_text(making, cursor, rest, pages)?;
     pages.write(output, faults)?;
@@ -220,7 +219,7 @@ pub fn make_messages<R: Read + Drop, O: Write, F: Write>(
     // The output grows by the plain spelling of each message, in its frame, up to the first text that is refused.
     ensures made { IfOk result
         (λ good. IfSome (R.remaining input) (λ all. MakesAll table.now form all
-        (O.contents output.old) (O.contents output.new) good)) }
+        (record { old = O.contents output.old; new = O.contents output.new }) good)) }
 {
     let making = Making {
         alloc,

@@ -7,7 +7,7 @@ ghost use Rattle.iso_jobs.specs.declared.refusal.Refusal.TheVariants.{Memory};
 
 use crate::form::Form;
 use crate::refusal::{Refusal, Trouble};
-use iso_parts::hex_digit;
+use iso_parts::raw::hex_digit;
 use iso_wire::{FrameFault, Header, append_frame};
 use std::alloc::{AllocError, Global};
 

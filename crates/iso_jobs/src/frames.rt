@@ -4,7 +4,7 @@ ghost use Rattle.std.specs.Prelude.{◌≡◌, false, is_some, nat_lt, IfOk, IfS
 ghost use Rattle.std.specs.Io.KnownBytes.{Keeps};
 ghost use Rattle.iso_input.specs.Window.{Grows};
 ghost use Rattle.iso_jobs.specs.Frames.{Steps, Ends};
-ghost use Rattle.iso_jobs.specs.Work.{WorksOn};
+ghost use Rattle.iso_jobs.specs.Work.{WorksOn, task_of};
 
 use crate::fault::Stop;
 use crate::job::{Job, tell_refused};
@@ -35,7 +35,8 @@ fn step<R: Read + Drop>(
     pages: &mut Pages,
 ) -> Result<Front, Stop>
     ensures { IfOk result
-        (Steps job.entry.work job.entry.form header window.old window.new pages.old pages.new) }
+        (Steps (task_of job.entry) header (record { window = window.old; pages = pages.old })
+        (record { window = window.new; pages = pages.new })) }
 {
     splits_once();
     let used = match unframe(header, window.held()) {
@@ -74,7 +75,8 @@ fn end<O: Write, F: Write>(
     faults: &mut F,
 ) -> Result<bool, Stop>
     ensures { IfOk result
-        (Ends (is_some rest) (O.contents output.old) (O.contents output.new) pages.old) }
+        (Ends (is_some rest) (record { old = O.contents output.old; new = O.contents output.new })
+        pages.old) }
 {
     if let Some(trouble) = rest {
         tell_refused(job, number, trouble, &mut pages.text)?;
@@ -107,8 +109,8 @@ pub(crate) fn work_on_frames<R: Read + Drop, O: Write, F: Write>(
     faults: &mut F,
 ) -> Result<bool, Stop>
     ensures { IfOk result (λ good. IfSome (R.remaining input)
-        (λ all. WorksOn job.entry.work job.entry.form header all
-        (O.contents output.old) (O.contents output.new) good)) }
+        (λ all. WorksOn (task_of job.entry) header all
+        (record { old = O.contents output.old; new = O.contents output.new }) good)) }
 {
     let mut window = Window::new(job.alloc, input);
     let mut pages = Pages::new(job.alloc);

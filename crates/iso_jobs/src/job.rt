@@ -1,7 +1,7 @@
 //! One body of an input, and what is told of it.
 
 ghost use Rattle.std.specs.Prelude.{◌≡◌, ◌++◌, ℕ, List, OnOk, IfOk, is_none};
-ghost use Rattle.iso_jobs.specs.Work.{TellsBehind, TellsBody, TellsNone, Tells};
+ghost use Rattle.iso_jobs.specs.Work.{TellsBehind, TellsBody, TellsNone, Tells, task_of};
 
 use crate::form::Form;
 use crate::place::Place;
@@ -54,8 +54,8 @@ fn tell_behind(
     bytes: &[u8],
     out: &mut Vec<u8>,
 ) -> Result<(), Refusal>
-    ensures { TellsBehind job.entry.work job.entry.form front.now bytes.now
-        out.old.items out.new.items result }
+    ensures { TellsBehind (task_of job.entry) front.now bytes.now
+        (record { old = out.old.items; new = out.new.items }) result }
 {
     let (alloc, form) = (job.alloc, job.form);
     let is_framed = form.header.is_some();
@@ -85,7 +85,8 @@ fn tell_behind(
 
 /// Appends what is told of a body.
 fn tell_body(job: Job, number: u64, body: &[u8], out: &mut Vec<u8>) -> Result<(), Refusal>
-    ensures { TellsBody job.entry.work job.entry.form body.now out.old.items out.new.items result }
+    ensures { TellsBody (task_of job.entry) body.now
+        (record { old = out.old.items; new = out.new.items }) result }
 {
     let (front, bytes) = behind_skipped(job.form.skip, body)?;
     tell_behind(job, number, front, bytes, out)
@@ -115,7 +116,7 @@ pub(crate) fn tell(
     out: &mut Vec<u8>,
 ) -> Result<Option<Trouble>, AllocError>
     ensures { IfOk result (λ trouble. (text : List ℕ)
-        × Tells job.entry.work job.entry.form body.now (is_none trouble, text)
+        × Tells (task_of job.entry) body.now (is_none trouble, text)
         × (out.new.items ≡ out.old.items ++ text)) }
 {
     match tell_body(job, number, body, out) {

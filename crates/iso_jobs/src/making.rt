@@ -5,7 +5,7 @@ ghost use Rattle.iso_json.specs.RoundTrip.{IsClearJson};
 ghost use Rattle.iso_json.specs.Said.{IsMessage};
 ghost use Rattle.iso_wire.specs.Contents.{Contents};
 ghost use Rattle.iso_wire.specs.Spelling.{PlainSpelling};
-ghost use Rattle.iso_jobs.specs.Making.{is_white, is_blank, is_json, line_of, refusal_of, Made, Spells};
+ghost use Rattle.iso_jobs.specs.Making.{is_white, is_blank, is_json, line_of, refusal_of_json, Outcome, Spells};
 ghost use Rattle.iso_jobs.specs.declared.making.MakeRefusal.TheVariants.{Memory};
 
 use crate::form::Form;
@@ -67,7 +67,7 @@ fn line_of(text: &[u8]) -> &[u8]
 
 /// What came of a text.
 fn refused(refusal: iso_json::Refusal) -> MakeRefusal
-    ensures { result ≡ refusal_of refusal }
+    ensures { result ≡ refusal_of_json refusal }
 {
     match refusal {
         iso_json::Refusal::Complaints(complaints) => MakeRefusal::Complaints(complaints),
@@ -121,7 +121,8 @@ pub(crate) fn make(
     text: &[u8],
     out: &mut Vec<u8>,
 ) -> Result<(), MakeRefusal>
-    ensures { Made table.now form text.now out.old.items out.new.items result }
+    ensures { Outcome table.now form text.now
+        (record { old = out.old.items; new = out.new.items }) result }
 {
     let body = match spelled(alloc, table, text) {
         Ok(body) => body,

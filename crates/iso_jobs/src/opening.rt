@@ -14,7 +14,7 @@ use std::io::Read;
 const MOST_BYTES: usize = 1_048_576;
 
 /// The most characters of hexadecimal text.
-const MOST_TEXT: usize = 16_777_216;
+const MOST_HEX: usize = 16_777_216;
 
 /// An input that was read whole.
 #[derive(Drop)]
@@ -29,7 +29,7 @@ pub(crate) enum Opened {
 fn most_of(form: Form) -> usize
     ensures { result ≡ most_of form }
 {
-    if form.is_hex { MOST_TEXT } else { MOST_BYTES }
+    if form.is_hex { MOST_HEX } else { MOST_BYTES }
 }
 
 /// The bytes that a text of hexadecimal digits stands for.

@@ -2,7 +2,7 @@
 
 ghost use Rattle.std.specs.Prelude.{◌≡◌, ◌++◌, ◌||◌, [], not, true, false, ℕ, List, Bool, OnOk};
 ghost use Rattle.std.specs.Io.KnownBytes.{Appends};
-ghost use Rattle.iso_jobs.specs.Work.{Tells};
+ghost use Rattle.iso_jobs.specs.Work.{Tells, task_of};
 
 use crate::fault::Stop;
 use crate::job::{Job, tell};
@@ -70,7 +70,7 @@ impl Pages {
     /// Adds what is told of a body.
     pub(crate) fn take(&mut self, job: Job, number: u64, body: &[u8]) -> Result<(), AllocError>
         ensures told { OnOk result ((good : Bool) × (text : List ℕ)
-            × Tells job.entry.work job.entry.form body.now (good, text)
+            × Tells (task_of job.entry) body.now (good, text)
             × (self.new.text.items ≡ self.old.text.items ++ text)
             × (self.new.has_refused ≡ (self.old.has_refused || not good))) }
     {

@@ -53,6 +53,26 @@ fn write_pack<W: fmt::Write>(fault: PackFault, f: &mut fmt::Formatter<W>) -> fmt
     }
 }
 
+/// Writes that bytes follow a message.
+fn write_trailing<W: fmt::Write>(
+    used: usize,
+    end: usize,
+    f: &mut fmt::Formatter<W>,
+) -> fmt::Result {
+    write!(
+        f,
+        "TrailingBytes: the message ends at byte {used}, and what was read at {end}: leave out the rest; often a line end, or a stream that wants --frames"
+    )
+}
+
+/// Writes that the input ends inside a frame.
+fn write_cut_frame<W: fmt::Write>(there: usize, f: &mut fmt::Formatter<W>) -> fmt::Result {
+    write!(
+        f,
+        "CutFrame: the input ends inside a frame, at its byte {there}; usually a cut file, a line end at its end, or another header"
+    )
+}
+
 /// Writes the sentence of a trouble, without its end.
 pub(crate) fn write_sentence<W: fmt::Write>(
     trouble: Trouble,
@@ -60,10 +80,7 @@ pub(crate) fn write_sentence<W: fmt::Write>(
 ) -> fmt::Result {
     match trouble {
         Trouble::Unpack(fault) => write_unpack(fault, f),
-        Trouble::Trailing { used, end } => write!(
-            f,
-            "TrailingBytes: the message ends at byte {used}, and what was read at {end}: leave out the rest; often a line end, or a stream that wants --frames"
-        ),
+        Trouble::Trailing { used, end } => write_trailing(used, end, f),
         Trouble::Skipped { has, wanted } => write!(
             f,
             "Short: --skip {wanted} passes over more than is there, which ends at byte {has}: mend --skip"
@@ -89,9 +106,6 @@ pub(crate) fn write_sentence<W: fmt::Write>(
             f,
             "{fault}: mend the text, or leave --hex out if these are the bytes"
         ),
-        Trouble::CutFrame(there) => write!(
-            f,
-            "CutFrame: the input ends inside a frame, at its byte {there}; usually a cut file, a line end at its end, or another header"
-        ),
+        Trouble::CutFrame(there) => write_cut_frame(there, f),
     }
 }

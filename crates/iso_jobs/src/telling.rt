@@ -1,7 +1,7 @@
 //! What is told of one message, and what is written for it.
 
 ghost use Rattle.std.specs.Prelude.{◌≡◌, ◌≢◌, ◌++◌, ℕ, List, IfErr, IfOk, OnOk};
-ghost use Rattle.iso_jobs.specs.Telling.{TellsLines, TellsJson, Converted, HasNoConversion};
+ghost use Rattle.iso_jobs.specs.Telling.{TellsLines, TellsJson, Conversion, HasNoConversion};
 ghost use Rattle.iso_jobs.specs.Telling.{IsNotConverted, TellsConverted, Grows, ending, refusal_of_pack};
 ghost use Rattle.iso_wire.specs.Contents.{Contents};
 ghost use Rattle.iso_wire.specs.Spelling.{Spelling};
@@ -43,7 +43,8 @@ pub(crate) fn tell_lines(
     out: &mut Vec<u8>,
 ) -> Result<(), Refusal>
     ensures told { OnOk result
-        ((text : List ℕ) × TellsLines table.now names.now is_clear is_framed bytes.now text
+        ((text : List ℕ) × TellsLines table.now
+        (record { names = names.now; is_clear = is_clear; is_framed = is_framed }) bytes.now text
         × (out.new.items ≡ out.old.items ++ text)) }
     ensures refused { IfErr result (λ e. e ≢ Memory → IsNoMessage table.now bytes.now) }
     ensures unchanged { IfErr result (λ e. e ≢ Memory → out.new.items ≡ out.old.items) }
@@ -92,8 +93,10 @@ fn converted(
     bytes: &[u8],
 ) -> Result<Vec<u8>, Refusal>
     ensures converted { IfOk result
-        (λ body. Converted from.now to.now front.now bytes.now body.items) }
-    ensures refused { IfErr result (λ e. e ≢ Memory → HasNoConversion from.now to.now bytes.now) }
+        (λ body. Conversion (record { from = from.now; to = to.now }) front.now bytes.now
+        body.items) }
+    ensures refused { IfErr result
+        (λ e. e ≢ Memory → HasNoConversion (record { from = from.now; to = to.now }) bytes.now) }
 {
     let message = match whole_message(alloc, from, bytes) {
         Ok(message) => message,
@@ -118,10 +121,12 @@ pub(crate) fn convert(
     out: &mut Vec<u8>,
 ) -> Result<(), Refusal>
     ensures told { OnOk result
-        ((text : List ℕ) × TellsConverted from.now to.now form front.now bytes.now text
+        ((text : List ℕ)
+        × TellsConverted (record { from = from.now; to = to.now }) form front.now bytes.now text
         × (out.new.items ≡ out.old.items ++ text)) }
     ensures refused { IfErr result
-        (λ e. e ≢ Memory → IsNotConverted from.now to.now form front.now bytes.now) }
+        (λ e. e ≢ Memory
+        → IsNotConverted (record { from = from.now; to = to.now }) form front.now bytes.now) }
     ensures unchanged { IfErr result (λ e. e ≢ Memory → out.new.items ≡ out.old.items) }
 {
     let body = match converted(alloc, from, to, front, bytes) {

@@ -1,7 +1,7 @@
 //! Complaints, and the objects that stand for messages that aren't read.
 
 ghost use Rattle.std.specs.Prelude.{◌≡◌, ◌++◌, ℕ, List, OnOk};
-ghost use Rattle.iso_jobs.specs.Complaints.{IsLine};
+ghost use Rattle.iso_jobs.specs.Complaints.{IsEndedLine};
 
 use crate::place::Place;
 use crate::refusal::Trouble;
@@ -11,7 +11,7 @@ use std::alloc::{AllocError, Global};
 /// Appends a text and the end of its line.
 fn push_line(text: &str, out: &mut Vec<u8>) -> Result<(), AllocError>
     ensures { OnOk result
-        ((line : List ℕ) × IsLine line × (out.new.items ≡ out.old.items ++ line)) }
+        ((line : List ℕ) × IsEndedLine line × (out.new.items ≡ out.old.items ++ line)) }
 {
     out.extend_from_slice(text.as_bytes())?;
     out.extend_from_slice(b"\n")
@@ -25,7 +25,7 @@ pub(crate) fn append_complaint(
     out: &mut Vec<u8>,
 ) -> Result<(), AllocError>
     ensures { OnOk result
-        ((line : List ℕ) × IsLine line × (out.new.items ≡ out.old.items ++ line)) }
+        ((line : List ℕ) × IsEndedLine line × (out.new.items ≡ out.old.items ++ line)) }
 {
     let line = format!(in alloc; "rumpadol: {place}: {trouble}")?;
     push_line(&line, out)
@@ -39,7 +39,7 @@ pub(crate) fn append_heading(
     out: &mut Vec<u8>,
 ) -> Result<(), AllocError>
     ensures { OnOk result
-        ((line : List ℕ) × IsLine line × (out.new.items ≡ out.old.items ++ line)) }
+        ((line : List ℕ) × IsEndedLine line × (out.new.items ≡ out.old.items ++ line)) }
 {
     let line = format!(in alloc; "frame {number}, a body of {length} bytes")?;
     push_line(&line, out)
@@ -81,7 +81,7 @@ pub(crate) fn append_object(
     out: &mut Vec<u8>,
 ) -> Result<(), AllocError>
     ensures { OnOk result
-        ((line : List ℕ) × IsLine line × (out.new.items ≡ out.old.items ++ line)) }
+        ((line : List ℕ) × IsEndedLine line × (out.new.items ≡ out.old.items ++ line)) }
 {
     let name = name_of(trouble);
     let members = place_members(alloc, trouble)?;

@@ -1,7 +1,7 @@
 //! The message that bytes are, and no byte more.
 
 ghost use Rattle.std.specs.Prelude.{◌≡◌, ◌≢◌, ◌<◌, ◌≤◌, IfOk, IfErr, OnOk, OnErr, length, take, drop};
-ghost use Rattle.iso_jobs.specs.Whole.{IsNoMessage, refusal_of};
+ghost use Rattle.iso_jobs.specs.Whole.{IsNoMessage, refusal_of_unpack};
 ghost use Rattle.iso_jobs.specs.declared.refusal.Refusal.TheVariants.{Memory};
 ghost use Rattle.iso_wire.specs.Spelling.{Spelling};
 
@@ -12,7 +12,7 @@ use std::alloc::Global;
 
 /// Why there is no message, from what `unpack` answers.
 fn refused(fault: UnpackFault) -> Refusal
-    ensures { result ≡ refusal_of fault }
+    ensures { result ≡ refusal_of_unpack fault }
 {
     match fault.cause {
         UnpackCause::Memory => Refusal::Memory,

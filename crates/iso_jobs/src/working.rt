@@ -3,7 +3,7 @@
 ghost use Rattle.std.specs.Prelude.{◌≡◌, [], false, ℕ, List, IfOk, IfSome};
 ghost use Rattle.std.specs.Io.KnownBytes.{Appends};
 ghost use Rattle.iso_jobs.specs.Inputs.{WorksOnBytes, WorksOnInput};
-ghost use Rattle.iso_jobs.specs.Work.{Tells};
+ghost use Rattle.iso_jobs.specs.Work.{Tells, task_of};
 
 use crate::fault::Stop;
 use crate::form::Form;
@@ -24,7 +24,7 @@ fn work_on_one<O: Write, F: Write>(
     faults: &mut F,
 ) -> Result<bool, Stop>
     ensures { IfOk result
-        (λ good. (text : List ℕ) × Tells job.entry.work job.entry.form bytes.now (good, text)
+        (λ good. (text : List ℕ) × Tells (task_of job.entry) bytes.now (good, text)
         × Appends (O.contents output.old) (O.contents output.new) text) }
 {
     let mut pages = Pages::new(job.alloc);
@@ -40,8 +40,8 @@ fn work_on_bytes<O: Write, F: Write>(
     output: &mut O,
     faults: &mut F,
 ) -> Result<bool, Stop>
-    ensures { IfOk result (WorksOnBytes job.entry.work job.entry.form bytes.now
-        (O.contents output.old) (O.contents output.new)) }
+    ensures { IfOk result (WorksOnBytes (task_of job.entry) bytes.now
+        (record { old = O.contents output.old; new = O.contents output.new })) }
 {
     match job.form.header {
         Some(header) => work_on_frames(job, header, bytes, output, faults),
@@ -73,8 +73,8 @@ fn work_on_whole<R: Read + Drop, O: Write, F: Write>(
     faults: &mut F,
 ) -> Result<bool, Stop>
     ensures { IfOk result
-        (λ good. IfSome (R.remaining input) (λ all. WorksOnInput job.entry.work job.entry.form all
-        (O.contents output.old) (O.contents output.new) good)) }
+        (λ good. IfSome (R.remaining input) (λ all. WorksOnInput (task_of job.entry) all
+        (record { old = O.contents output.old; new = O.contents output.new }) good)) }
 {
     match open_whole(job.alloc, job.form, input)? {
         Opened::Bytes(bytes) => work_on_bytes(job, &bytes, output, faults),
@@ -99,8 +99,9 @@ pub fn work_on<R: Read + Drop, O: Write, F: Write>(
 ) -> Result<bool, Stop>
     // What the output grows by is told of each message of the input, in their order.
     ensures told { IfOk result
-        (λ good. IfSome (R.remaining input) (λ all. WorksOnInput work.entry form all
-        (O.contents output.old) (O.contents output.new) good)) }
+        (λ good. IfSome (R.remaining input) (λ all. WorksOnInput
+        (record { work = work.entry; form = form }) all
+        (record { old = O.contents output.old; new = O.contents output.new }) good)) }
 {
     let job = Job {
         alloc,

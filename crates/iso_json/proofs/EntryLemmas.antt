@@ -11,7 +11,7 @@ use Rattle.iso_parts.specs.Bitmap.{contains}
 use Rattle.iso_parts.specs.declared.bitmap.Bitmap.{Bitmap}
 use Rattle.iso_parts.specs.declared.spec.FieldSpec.{FieldSpec}
 use Rattle.iso_json.specs.Texts.{number_of}
-use Rattle.iso_json.specs.Said.{Heard, also, none_seen, seen_with, with_entry, with_entries}
+use Rattle.iso_json.specs.Heard.{Heard, also, none_seen, seen_with, with_entry, with_entries}
 
 -- sets with the same numbers are the same
 same_set : (f g : ℕ → Bool) → ((k : ℕ) → f k ≡ g k) → f ≡ g
@@ -34,7 +34,7 @@ seen_none now h = same_set (contains now) none_seen h
 -- one member more is read
 pub entries_step : {A : Type 0} (rows : List (Option FieldSpec)) (seen : ℕ → Bool) (members : List (Bor (List ℕ) × Value A)) (i : ℕ) (m : Bor (List ℕ) × Value A) (h : Heard) → i < length members
     → m ≡ get_or members i m
-    → with_entries rows seen i (members_view (drop i members)) h ≡ with_entries rows (seen_with (number_of m.0.now) seen) (i + 1) (members_view (drop (i + 1) members)) (with_entry rows seen i (number_of m.0.now) (value_view m.1) h)
+    → with_entries rows seen i (members_view (drop i members)) h ≡ with_entries rows (seen_with (number_of m.0.now) seen) (i + 1) (members_view (drop (i + 1) members)) (with_entry rows seen (record { at = i; number = number_of m.0.now; value = value_view m.1 }) h)
 entries_step {A} rows seen members i m h lt is =
     let less : drop i members ≡ m ∷ drop (i + 1) members =
     drop-cons members i m lt ∙ ap (λ (k : ℕ). get_or members i m ∷ drop k members) (sym (add-one i)) ∙ ap (λ (x : Bor (List ℕ) × Value A). x ∷ drop (i + 1) members) (sym is) in
@@ -47,11 +47,11 @@ entries_all {A} rows seen members i h le = at_drop_all (λ (ms : List (Bor (List
 
 -- what the rest gives stays, where one member more is read
 pub entries_next : {A : Type 0} (rows : List (Option FieldSpec)) (seen now : ℕ → Bool) (members : List (Bor (List ℕ) × Value A)) (i at : ℕ) (m : Bor (List ℕ) × Value A) (h next total : Heard) → i < length members
-    → m ≡ get_or members i m → at ≡ i → now ≡ seen_with (number_of m.0.now) seen → next ≡ with_entry rows seen at (number_of m.0.now) (value_view m.1) h
+    → m ≡ get_or members i m → at ≡ i → now ≡ seen_with (number_of m.0.now) seen → next ≡ with_entry rows seen (record { at = at; number = number_of m.0.now; value = value_view m.1 }) h
     → with_entries rows seen i (members_view (drop i members)) h ≡ total → with_entries rows now (i + 1) (members_view (drop (i + 1) members)) next ≡ total
 entries_next {A} rows seen now members i at m h next total lt is place more read judged =
     let rest = members_view (drop (i + 1) members) in
     ap (λ (s : ℕ → Bool). with_entries rows s (i + 1) rest next) more
-    ∙ ap (λ (x : Heard). with_entries rows (seen_with (number_of m.0.now) seen) (i + 1) rest x) (read ∙ ap (λ (k : ℕ). with_entry rows seen k (number_of m.0.now) (value_view m.1) h) place)
+    ∙ ap (λ (x : Heard). with_entries rows (seen_with (number_of m.0.now) seen) (i + 1) rest x) (read ∙ ap (λ (k : ℕ). with_entry rows seen (record { at = k; number = number_of m.0.now; value = value_view m.1 }) h) place)
     ∙ sym (entries_step rows seen members i m h lt is)
     ∙ judged

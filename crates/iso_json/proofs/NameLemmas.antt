@@ -10,7 +10,8 @@ use Rattle.json.specs.declared.value.Value.{Value}
 use Rattle.iso_json.specs.declared.complaint.Complaint.{Complaint}
 use Rattle.iso_json.specs.declared.complaint.Place.TheVariants as places
 use Rattle.iso_json.specs.declared.complaint.Trouble.{Trouble}
-use Rattle.iso_json.specs.Said.{complained, elements_key, mti_key, name_trouble, names_from}
+use Rattle.iso_json.specs.Said.{elements_key, mti_key, name_trouble, names_from}
+use Rattle.iso_json.specs.Heard.{complained}
 
 -- one name more is judged
 pub names_step : {A : Type 0} (a b : Bool) (members : List (Bor (List ℕ) × Value A)) (i : ℕ) (m : Bor (List ℕ) × Value A) (old new total : List Complaint) → i < length members → m ≡ get_or members i m

@@ -12,7 +12,8 @@ use Rattle.iso_json.specs.declared.complaint.Refusal.{Refusal}
 use Rattle.iso_json.specs.declared.complaint.Refusal.TheVariants as refusals
 use Rattle.iso_json.specs.declared.complaint.Place.TheVariants as places
 use Rattle.iso_json.specs.declared.complaint.Trouble.{Trouble}
-use Rattle.iso_json.specs.Said.{AreOf, ArisesFrom, Heard, IsMessage, IsNotJson, IsNotJsonAt, IsNotObject, Reads, complained, complaints_in, contents_of, elements_key, heard_in, mti_key, names_from, not_object, or_zero, trouble_in, type_at, with_elements}
+use Rattle.iso_json.specs.Said.{AreOf, ArisesFrom, IsMessage, IsNotJson, IsNotJsonAt, IsNotObject, Reads, complaints_in, contents_of, elements_key, heard_in, mti_key, names_from, not_object}
+use Rattle.iso_json.specs.Heard.{Heard, complained, or_zero, trouble_in, type_at, with_elements}
 
 -- what a value says, its text says
 pub read_said : (t : Layout) (text : List ℕ) (j : Json) (r : Result Contents Refusal) → IsUtf8 text → document text ≡ Some j → Reads t j r → IfOk r (λ m. IsMessage t text m)

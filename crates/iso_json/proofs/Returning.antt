@@ -31,7 +31,8 @@ use Rattle.iso_json.specs.declared.complaint.Trouble.{Trouble}
 use Rattle.iso_json.specs.declared.complaint.Trouble.TheVariants as troubles
 use Rattle.iso_json.specs.RoundTrip.{IsClearJson, clear_members, clear_object}
 use Rattle.std.specs.Str.{IsUtf8}
-use Rattle.iso_json.specs.Said.{AreOf, ArisesFrom, Heard, IsMessage, Says, also, complained, complaints_in, contents_of, elements_key, entry_value, heard_in, mti_key, none_seen, or_zero, seen_with, trouble_in, type_at, type_of, with_entries, with_entry, with_value}
+use Rattle.iso_json.specs.Said.{AreOf, ArisesFrom, IsMessage, Says, complaints_in, contents_of, elements_key, heard_in, mti_key}
+use Rattle.iso_json.specs.Heard.{Heard, also, complained, entry_value, none_seen, or_zero, seen_with, trouble_in, type_at, type_of, with_entries, with_entry, with_value}
 use Rattle.iso_json.specs.Texts.{bytes_of, decoded, element_number, fitting, number_of, unless_refused, value_of}
 use Rattle.iso_json.specs.Written.{json_of}
 use Rattle.iso_json.proofs.Printing.{json_printed, json_utf8, number_read}
@@ -92,7 +93,7 @@ only es = record { elements = es; complaints = [] }
 step_back : (rows : List (Option FieldSpec)) (seen : ℕ → Bool) (at : ℕ) (e : ℕ × List ℕ) (ms : Members) (done : List (ℕ × List ℕ)) → IsReady rows e → seen e.0 ≡ false → IsBelow e.0 done
     → with_entries rows seen at (member (decimal e.0) (string (text_of rows e)) ms) (only done) ≡ with_entries rows (also e.0 seen) (at + 1) ms (only (done ++ e ∷ []))
 step_back rows seen at e ms done ready fresh below =
-    ap (λ (o : Option ℕ). with_entries rows (seen_with o seen) (at + 1) ms (with_entry rows seen at o (string (text_of rows e)) (only done))) (number_back rows e ready)
+    ap (λ (o : Option ℕ). with_entries rows (seen_with o seen) (at + 1) ms (with_entry rows seen (record { at = at; number = o; value = string (text_of rows e) }) (only done))) (number_back rows e ready)
     ∙ ap (λ (r : Result (List ℕ) Trouble). with_entries rows (also e.0 seen) (at + 1) ms (with_value (places.Entry (at + 1)) e.0 r (only done))) (entry_back rows seen e ready fresh)
     ∙ ap (λ (xs : List (ℕ × List ℕ)). with_entries rows (also e.0 seen) (at + 1) ms (only xs)) (put_last e.0 e.1 done below)
 

@@ -7,7 +7,8 @@ ghost use Rattle.iso_wire.specs.Elements.{put};
 ghost use Rattle.json.specs.Value.{value_view, members_view};
 ghost use Rattle.iso_json.specs.declared.complaint.Place.{Place};
 ghost use Rattle.iso_json.specs.Texts.{number_of, IsStop};
-ghost use Rattle.iso_json.specs.Said.{complaint, complaint_of, entry_value, heard, with_value, with_entry, with_entries, seen_with, none_seen};
+ghost use Rattle.iso_json.specs.Heard.{complaint, complaint_of, entry_value, heard, with_value, with_entry};
+ghost use Rattle.iso_json.specs.Heard.{with_entries, seen_with, none_seen};
 
 use crate::complaint::{Complaint, Place, Trouble};
 use crate::values::{Stop, number_of, value_of};
@@ -133,8 +134,9 @@ fn read_entry(
     ensures mti { message.new.mti ≡ message.old.mti }
     ensures seen { contains seen.new ≡ seen_with (number_of key.now) (contains seen.old) }
     ensures heard { OnOk result
-        (heard message.new complaints.new ≡ with_entry table.now.rows (contains seen.old) at
-        (number_of key.now) (value_view value.now) (heard message.old complaints.old)) }
+        (heard message.new complaints.new ≡ with_entry table.now.rows (contains seen.old)
+        (record { at = at; number = number_of key.now; value = value_view value.now })
+        (heard message.old complaints.old)) }
 {
     let Some(n) = number_of(key.as_bytes()) else {
         return complain(Place::Entry(at + 1), Trouble::BadNumber, complaints);

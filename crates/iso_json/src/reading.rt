@@ -7,8 +7,9 @@ ghost use Rattle.json.specs.Json.{object};
 ghost use Rattle.json.specs.Value.{value_view, members_view};
 ghost use Rattle.iso_parts.specs.Mti.{mti_number};
 ghost use Rattle.iso_json.specs.declared.complaint.Refusal.TheVariants as refusals;
-ghost use Rattle.iso_json.specs.Said.{name_trouble, names_from, mti_key, elements_key, complaint, complained, type_number, type_in, type_at, or_zero, trouble_in};
-ghost use Rattle.iso_json.specs.Said.{heard, with_elements, heard_in, contents_of, complaints_in, Reads, IsSpotted, IsNotObject, IsNotJsonAt, IsMessage, AreOf};
+ghost use Rattle.iso_json.specs.Said.{name_trouble, names_from, mti_key, elements_key, heard_in, contents_of, complaints_in, Reads};
+ghost use Rattle.iso_json.specs.Said.{IsSpotted, IsNotObject, IsNotJsonAt, IsMessage, AreOf};
+ghost use Rattle.iso_json.specs.Heard.{complaint, complained, type_number, type_in, type_at, or_zero, trouble_in, heard, with_elements};
 ghost use Rattle.iso_json.specs.RoundTrip.{ComesBack};
 
 use crate::complaint::{Complaint, Place, Refusal, Trouble};

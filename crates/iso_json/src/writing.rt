@@ -11,7 +11,8 @@ ghost use Rattle.iso_parts.specs.Buffers.{Keeps};
 ghost use Rattle.iso_wire.specs.Describing.{clear_text, value_text, shown_text, class_by};
 ghost use Rattle.iso_json.specs.Written.{is_plain, escaped, json_member, further_members, json_members, json_of};
 
-use iso_parts::{CharClass, Mti, four_ascii_digits, hex_digit};
+use iso_parts::raw::{four_ascii_digits, hex_digit};
+use iso_parts::{CharClass, Mti};
 use iso_table::{NoMemory, Table};
 use iso_wire::{Iter, Message, masked};
 use itoa::Buffer;

@@ -3,7 +3,7 @@
 ghost use Rattle.std.specs.Prelude.{◌≡◌, ◌<◌, ◌≤◌, length, IfOk, IfSome};
 ghost use Rattle.iso_meaning.specs.Chip.{tag_of, length_of, next, AreItemsOf};
 
-use std::alloc::{AllocError, AllocFailed, Global};
+use std::alloc::{AllocFailed, Global};
 use thiserror::Error;
 
 /// A data object: what its tag says, and where it stands in the chip data.
@@ -38,12 +38,6 @@ pub enum ChipFault {
     /// Memory ran out.
     #[error("memory ran out")]
     Memory,
-}
-
-impl From<AllocError> for ChipFault {
-    fn from(_e: AllocError) -> ChipFault {
-        ChipFault::Memory
-    }
 }
 
 impl<T: Drop> From<AllocFailed<T>> for ChipFault {

@@ -7,7 +7,7 @@ ghost use Rattle.iso_meaning.specs.Chip.{stars_for, chip_text};
 
 use crate::tags::is_shown;
 use crate::track::push_stars;
-use iso_parts::hex_digit;
+use iso_parts::raw::hex_digit;
 use std::alloc::AllocError;
 
 /// Appends two hexadecimal digits for each byte.

@@ -1,8 +1,8 @@
 //! Codes of two digits: the parts of the processing code (3), the response code (39), and the types of additional
 //! amounts (54), by ISO 8583:1987. Codes that it leaves to a nation or a network have no meaning here.
 
-ghost use Rattle.std.specs.Prelude.{◌≡◌, ◌<◌, is_some};
-ghost use Rattle.iso_meaning.specs.Codes.{two_digits, is_code, is_transaction, is_account, is_amount, is_response};
+ghost use Rattle.std.specs.Prelude.{◌≡◌, ◌<◌, ◌==◌, ◌||◌, is_some, nat_le};
+ghost use Rattle.iso_meaning.specs.Codes.{two_digits, is_code, is_transaction, is_account, is_amount, is_response, is_from};
 
 /// The number of two digits.
 pub(crate) fn two_digits(code: &[u8]) -> Option<u8>
@@ -69,9 +69,9 @@ fn amount_of(number: u8) -> Option<&'static str>
     }
 }
 
-/// The meaning of a response code's number.
-fn response_of(number: u8) -> Option<&'static str>
-    ensures { is_some result ≡ is_response number }
+/// The meaning of a response code's number below 30.
+fn response_below_30(number: u8) -> Option<&'static str>
+    ensures { is_some result ≡ nat_le number 29 }
 {
     match number {
         0 => Some("Approved"),
@@ -104,6 +104,15 @@ fn response_of(number: u8) -> Option<&'static str>
         27 => Some("File update field edit error"),
         28 => Some("File update file locked out"),
         29 => Some("File update not successful, contact acquirer"),
+        _ => None,
+    }
+}
+
+/// The meaning of a response code's number from 30 to 59.
+fn response_below_60(number: u8) -> Option<&'static str>
+    ensures { is_some result ≡ (is_from 30 44 number || is_from 51 59 number) }
+{
+    match number {
         30 => Some("Format error"),
         31 => Some("Bank not supported by switch"),
         32 => Some("Completed partially"),
@@ -128,6 +137,15 @@ fn response_of(number: u8) -> Option<&'static str>
         57 => Some("Transaction not permitted to cardholder"),
         58 => Some("Transaction not permitted to terminal"),
         59 => Some("Suspected fraud"),
+        _ => None,
+    }
+}
+
+/// The meaning of a response code's number from 60 on.
+fn response_from_60(number: u8) -> Option<&'static str>
+    ensures { is_some result ≡ (is_from 60 68 number || number == 75 || is_from 90 96 number) }
+{
+    match number {
         60 => Some("Card acceptor contact acquirer"),
         61 => Some("Exceeds withdrawal amount limit"),
         62 => Some("Restricted card"),
@@ -146,6 +164,17 @@ fn response_of(number: u8) -> Option<&'static str>
         95 => Some("Reconcile error"),
         96 => Some("System malfunction"),
         _ => None,
+    }
+}
+
+/// The meaning of a response code's number.
+fn response_of(number: u8) -> Option<&'static str>
+    ensures { is_some result ≡ is_response number }
+{
+    match number {
+        0..=29 => response_below_30(number),
+        30..=59 => response_below_60(number),
+        _ => response_from_60(number),
     }
 }
 

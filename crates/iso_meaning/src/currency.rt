@@ -25,8 +25,8 @@ fn three_digits(code: &[u8]) -> Option<u16>
     }
 }
 
-/// The letters of a number below 250.
-fn low(number: u16) -> Option<&'static str>
+/// The letters of a number below 200.
+fn letters_below_200(number: u16) -> Option<&'static str>
     ensures { IfSome result (λ letters. IsTrue (is_alphabetic letters.now)) }
 {
     match number {
@@ -59,6 +59,15 @@ fn low(number: u16) -> Option<&'static str>
         174 => Some("KMF"),
         188 => Some("CRC"),
         192 => Some("CUP"),
+        _ => None,
+    }
+}
+
+/// The letters of a number from 200 to 399.
+fn letters_below_400(number: u16) -> Option<&'static str>
+    ensures { IfSome result (λ letters. IsTrue (is_alphabetic letters.now)) }
+{
+    match number {
         203 => Some("CZK"),
         208 => Some("DKK"),
         214 => Some("DOP"),
@@ -67,15 +76,6 @@ fn low(number: u16) -> Option<&'static str>
         232 => Some("ERN"),
         238 => Some("FKP"),
         242 => Some("FJD"),
-        _ => None,
-    }
-}
-
-/// The letters of a number from 250 to 499.
-fn middle(number: u16) -> Option<&'static str>
-    ensures { IfSome result (λ letters. IsTrue (is_alphabetic letters.now)) }
-{
-    match number {
         262 => Some("DJF"),
         270 => Some("GMD"),
         292 => Some("GIP"),
@@ -95,6 +95,15 @@ fn middle(number: u16) -> Option<&'static str>
         388 => Some("JMD"),
         392 => Some("JPY"),
         398 => Some("KZT"),
+        _ => None,
+    }
+}
+
+/// The letters of a number from 400 to 599.
+fn letters_below_600(number: u16) -> Option<&'static str>
+    ensures { IfSome result (λ letters. IsTrue (is_alphabetic letters.now)) }
+{
+    match number {
         400 => Some("JOD"),
         404 => Some("KES"),
         408 => Some("KPW"),
@@ -114,15 +123,6 @@ fn middle(number: u16) -> Option<&'static str>
         484 => Some("MXN"),
         496 => Some("MNT"),
         498 => Some("MDL"),
-        _ => None,
-    }
-}
-
-/// The letters of a number from 500 to 899.
-fn high(number: u16) -> Option<&'static str>
-    ensures { IfSome result (λ letters. IsTrue (is_alphabetic letters.now)) }
-{
-    match number {
         504 => Some("MAD"),
         512 => Some("OMR"),
         516 => Some("NAD"),
@@ -137,6 +137,15 @@ fn high(number: u16) -> Option<&'static str>
         586 => Some("PKR"),
         590 => Some("PAB"),
         598 => Some("PGK"),
+        _ => None,
+    }
+}
+
+/// The letters of a number from 600 to 899.
+fn letters_below_900(number: u16) -> Option<&'static str>
+    ensures { IfSome result (λ letters. IsTrue (is_alphabetic letters.now)) }
+{
+    match number {
         600 => Some("PYG"),
         604 => Some("PEN"),
         608 => Some("PHP"),
@@ -174,8 +183,8 @@ fn high(number: u16) -> Option<&'static str>
     }
 }
 
-/// The letters of a number from 900 on.
-fn highest(number: u16) -> Option<&'static str>
+/// The letters of a number from 900 to 959.
+fn letters_below_960(number: u16) -> Option<&'static str>
     ensures { IfSome result (λ letters. IsTrue (is_alphabetic letters.now)) }
 {
     match number {
@@ -208,6 +217,15 @@ fn highest(number: u16) -> Option<&'static str>
         957 => Some("XBC"),
         958 => Some("XBD"),
         959 => Some("XAU"),
+        _ => None,
+    }
+}
+
+/// The letters of a number from 960 on.
+fn letters_from_960(number: u16) -> Option<&'static str>
+    ensures { IfSome result (λ letters. IsTrue (is_alphabetic letters.now)) }
+{
+    match number {
         960 => Some("XDR"),
         961 => Some("XAG"),
         962 => Some("XPT"),
@@ -244,10 +262,12 @@ fn letters_of(number: u16) -> Option<&'static str>
     ensures { IfSome result (λ letters. IsTrue (is_alphabetic letters.now)) }
 {
     match number {
-        0..=249 => low(number),
-        250..=499 => middle(number),
-        500..=899 => high(number),
-        _ => highest(number),
+        0..=199 => letters_below_200(number),
+        200..=399 => letters_below_400(number),
+        400..=599 => letters_below_600(number),
+        600..=899 => letters_below_900(number),
+        900..=959 => letters_below_960(number),
+        _ => letters_from_960(number),
     }
 }
 

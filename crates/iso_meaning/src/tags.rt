@@ -1,11 +1,11 @@
 //! The tags of chip data (55), by EMV's book 3 and the books of its kernels.
 
-ghost use Rattle.std.specs.Prelude.{◌≡◌, is_some};
+ghost use Rattle.std.specs.Prelude.{◌≡◌, ◌&&◌, is_some, nat_le};
 ghost use Rattle.iso_meaning.specs.Tags.{is_short, is_behind_5f, is_behind_9f, has_name, is_card_data, is_named_template, is_shown};
 
-/// The name of a tag of one byte.
-fn short(tag: u8) -> Option<&'static str>
-    ensures { is_some result ≡ is_short tag }
+/// The name of a tag of one byte of the application class: below 80.
+fn of_application(tag: u8) -> Option<&'static str>
+    ensures { is_some result ≡ (is_short tag && nat_le tag 127) }
 {
     match tag {
         0x42 => Some("Issuer identification number (IIN)"),
@@ -21,6 +21,15 @@ fn short(tag: u8) -> Option<&'static str>
         0x72 => Some("Issuer script template 2"),
         0x73 => Some("Directory discretionary template"),
         0x77 => Some("Response message template format 2"),
+        _ => None,
+    }
+}
+
+/// The name of a tag of one byte of the context-specific class: from 80 on.
+fn of_context(tag: u8) -> Option<&'static str>
+    ensures { is_some result ≡ (is_short tag && nat_le 128 tag) }
+{
+    match tag {
         0x80 => Some("Response message template format 1"),
         0x81 => Some("Amount, authorised (binary)"),
         0x82 => Some("Application interchange profile"),
@@ -53,6 +62,17 @@ fn short(tag: u8) -> Option<&'static str>
     }
 }
 
+/// The name of a tag of one byte.
+fn short(tag: u8) -> Option<&'static str>
+    ensures { is_some result ≡ is_short tag }
+{
+    if tag < 0x80 {
+        of_application(tag)
+    } else {
+        of_context(tag)
+    }
+}
+
 /// The name of a tag that begins with 5F, by its second byte.
 fn behind_5f(tag: u8) -> Option<&'static str>
     ensures { is_some result ≡ is_behind_5f tag }
@@ -76,9 +96,9 @@ fn behind_5f(tag: u8) -> Option<&'static str>
     }
 }
 
-/// The name of a tag that begins with 9F, by its second byte.
-fn behind_9f(tag: u8) -> Option<&'static str>
-    ensures { is_some result ≡ is_behind_9f tag }
+/// The name of a tag from 9F00 to 9F1F, by its second byte.
+fn to_9f1f(tag: u8) -> Option<&'static str>
+    ensures { is_some result ≡ (is_behind_9f tag && nat_le tag 31) }
 {
     match tag {
         0x01 => Some("Acquirer identifier"),
@@ -109,6 +129,15 @@ fn behind_9f(tag: u8) -> Option<&'static str>
         0x1D => Some("Terminal risk management data"),
         0x1E => Some("Interface device (IFD) serial number"),
         0x1F => Some("Track 1 discretionary data"),
+        _ => None,
+    }
+}
+
+/// The name of a tag from 9F20 on, by its second byte.
+fn from_9f20(tag: u8) -> Option<&'static str>
+    ensures { is_some result ≡ (is_behind_9f tag && nat_le 32 tag) }
+{
+    match tag {
         0x20 => Some("Track 2 discretionary data"),
         0x21 => Some("Transaction time"),
         0x23 => Some("Upper consecutive offline limit"),
@@ -140,6 +169,17 @@ fn behind_9f(tag: u8) -> Option<&'static str>
         0x4F => Some("Log format"),
         0x6B => Some("Track 2 data"),
         _ => None,
+    }
+}
+
+/// The name of a tag that begins with 9F, by its second byte.
+fn behind_9f(tag: u8) -> Option<&'static str>
+    ensures { is_some result ≡ is_behind_9f tag }
+{
+    if tag < 0x20 {
+        to_9f1f(tag)
+    } else {
+        from_9f20(tag)
     }
 }
 

@@ -10,7 +10,7 @@ use Rattle.iso_parts.specs.Class.{is_digit}
 use Rattle.iso_parts.specs.Numbers.{is_element}
 use Rattle.iso_names.specs.declared.fault.NamesFault.{NamesFault}
 use Rattle.iso_names.specs.declared.fault.NamesFault.TheVariants as faults
-use Rattle.iso_names.specs.Own.{Own, Laid}
+use Rattle.iso_names.specs.Own.{Own, NetworkNames}
 
 -- what is wrong with a JSON value: it is no object, a key is no element's number, an element's name is none
 pub data Wrong : Type 0 where
@@ -120,7 +120,7 @@ abbrev pub IsNotJson : List ℕ → Type 0
 IsNotJson text = IsUtf8 text → read text ≡ None
 
 -- the names are those of the text, laid over the version's
-abbrev pub IsNamesOf : ℕ → List ℕ → Laid → Type 0
+abbrev pub IsNamesOf : ℕ → List ℕ → NetworkNames → Type 0
 IsNamesOf version text n = (d : Data) × StandsFor text d × (own_names d ≡ Ok n.own)
     × (n.version ≡ version)
 

@@ -8,7 +8,7 @@ pub record Own : Type 0 where
   pub name : List ℕ
 
 -- the names of a network: those of its own come before those of the version's edition
-pub record Laid : Type 0 where
+pub record NetworkNames : Type 0 where
   pub version : ℕ
   pub own : List Own
 

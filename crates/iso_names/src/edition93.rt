@@ -5,9 +5,8 @@ ghost use Rattle.iso_parts.specs.Numbers.{is_element};
 
 use crate::edition87::name87;
 
-/// The name of an element.
-pub fn name93(element: u8) -> Option<&'static str>
-    // A name exactly for the elements 2 to 128 but for 65.
+/// The name of an element of the primary bitmap.
+fn primary(element: u8) -> Option<&'static str>
     ensures { is_some result ≡ is_element element }
 {
     match element {
@@ -28,6 +27,15 @@ pub fn name93(element: u8) -> Option<&'static str>
         56 => Some("Original data elements"),
         57 => Some("Authorization life cycle code"),
         58 => Some("Authorizing agent institution identification code"),
+        _ => name87(element),
+    }
+}
+
+/// The name of an element of the secondary bitmap.
+fn secondary(element: u8) -> Option<&'static str>
+    ensures { is_some result ≡ is_element element }
+{
+    match element {
         66 => Some("Amounts, original fees"),
         70 => Some("Country code, authorizing agent institution"),
         72 => Some("Data record"),
@@ -49,5 +57,16 @@ pub fn name93(element: u8) -> Option<&'static str>
         109 => Some("Credits, fee amounts"),
         110 => Some("Debits, fee amounts"),
         _ => name87(element),
+    }
+}
+
+/// The name of an element.
+pub fn name93(element: u8) -> Option<&'static str>
+    // A name exactly for the elements 2 to 128 but for 65.
+    ensures { is_some result ≡ is_element element }
+{
+    match element {
+        0..=64 => primary(element),
+        _ => secondary(element),
     }
 }

@@ -19,9 +19,9 @@ pub struct Names {
 
 impl Model for Names {
     ghost use Rattle.std.specs.Prelude.{map};
-    ghost use Rattle.iso_names.specs.Own.{Laid, own_view};
+    ghost use Rattle.iso_names.specs.Own.{NetworkNames, own_view};
 
-    ghost Value = { Laid };
+    ghost Value = { NetworkNames };
 
     ghost view = { λ n. record { version = n.version; own = map own_view n.own.items } };
 }

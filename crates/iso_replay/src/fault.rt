@@ -1,6 +1,6 @@
 //! Why nothing is exchanged with a host.
 
-use std::alloc::{AllocError, AllocFailed};
+use std::alloc::AllocError;
 use std::net::SocketAddr;
 use thiserror::Error;
 
@@ -20,12 +20,6 @@ pub enum ReplayFault {
 
 impl From<AllocError> for ReplayFault {
     fn from(_fault: AllocError) -> ReplayFault {
-        ReplayFault::Memory
-    }
-}
-
-impl<T: Drop> From<AllocFailed<T>> for ReplayFault {
-    fn from(_fault: AllocFailed<T>) -> ReplayFault {
         ReplayFault::Memory
     }
 }

@@ -1,5 +1,5 @@
 use Rattle.std.proofs.Common.{◌∙◌, [], sym, ap, append-nil}
-use Rattle.iso_jobs.specs.Whole.{refusal_by}
+use Rattle.iso_jobs.specs.Whole.{refusal_by_cause}
 use Rattle.iso_jobs.proofs.WholeLemmas.{size_in}
 use Rattle.iso_jobs.proofs.whole.whole_message.Goals as goal
 
@@ -9,4 +9,4 @@ returns-in-Ok-2-clause-only c = λ no m h.
 
 pub returns-in-Err-clause-only : goal.returns-in-Err-clause-only
 returns-in-Err-clause-only c = λ no m h.
-    c.in-Err.ensures.refused (λ is. no (c.refused.ensures ∙ ap (refusal_by c.in-Err.fault) is)) m c.args.bytes.now [] (sym (append-nil c.args.bytes.now)) h
+    c.in-Err.ensures.refused (λ is. no (c.refused.ensures ∙ ap (refusal_by_cause c.in-Err.fault) is)) m c.args.bytes.now [] (sym (append-nil c.args.bytes.now)) h

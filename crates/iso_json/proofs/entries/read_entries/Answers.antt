@@ -1,7 +1,7 @@
 use Rattle.std.proofs.Common.{ℕ, Bool, ap, arith, drop, rules, sym, ◌∙◌}
 use Rattle.json.specs.Value.{members_view}
 use Rattle.iso_parts.specs.Bitmap.{contains}
-use Rattle.iso_json.specs.Said.{heard, with_entries}
+use Rattle.iso_json.specs.Heard.{heard, with_entries}
 use Rattle.iso_json.proofs.EntryLemmas.{entries_all, entries_next, seen_none}
 use Rattle.iso_json.proofs.entries.read_entries.Goals as goal
 

@@ -1,7 +1,7 @@
 use Rattle.std.proofs.Common.{◌≡◌, drop}
 use Rattle.json.specs.Value.{members_view}
 use Rattle.iso_parts.specs.Bitmap.{contains}
-use Rattle.iso_json.specs.Said.{heard, none_seen, with_entries}
+use Rattle.iso_json.specs.Heard.{heard, none_seen, with_entries}
 use Rattle.iso_json.proofs.entries.read_entries.Given as goal
 
 -- reading the rest after what was read gives what reading all does

@@ -1,6 +1,6 @@
 use Rattle.std.proofs.Common.{ℕ, Option, ap, ◌∙◌}
 use Rattle.iso_parts.specs.Bitmap.{contains}
-use Rattle.iso_json.specs.Said.{seen_with}
+use Rattle.iso_json.specs.Heard.{seen_with}
 use Rattle.iso_json.specs.Texts.{number_of}
 use Rattle.iso_json.proofs.EntryLemmas.{seen_also}
 use Rattle.iso_json.proofs.entries.read_entry.Goals as goal

@@ -7,7 +7,8 @@ use Rattle.iso_wire.specs.Contents.{Contents}
 use Rattle.iso_json.specs.declared.complaint.Complaint.{Complaint}
 use Rattle.iso_json.specs.declared.complaint.Place.TheVariants as places
 use Rattle.iso_json.specs.declared.complaint.Trouble.{Trouble}
-use Rattle.iso_json.specs.Said.{complained, elements_key, mti_key, type_number}
+use Rattle.iso_json.specs.Said.{elements_key, mti_key}
+use Rattle.iso_json.specs.Heard.{complained, type_number}
 use Rattle.iso_json.proofs.Readings.{ReadsSteps, object_complaints, object_message}
 use Rattle.iso_json.proofs.reading.read_object.Goals as goal
 
