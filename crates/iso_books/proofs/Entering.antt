@@ -12,7 +12,7 @@ use Rattle.iso_journal.specs.Why.{IsDamaged}
 use Rattle.iso_books.specs.Records.{Between, IsTaken, is_clear, is_zero}
 use Rattle.std.specs.Io.KnownBytes.{Keeps}
 use Rattle.iso_books.specs.Headings.{IsHeaded}
-use Rattle.iso_books.specs.Replays.{HasEntered, HasEnteredBehind, IsDamagedBehind, IsFound, IsFoundBehind, TakesOrder, IsUnwritten, IsSameIssuer, ended}
+use Rattle.iso_books.specs.Replays.{HasEntered, HasEnteredBehind, IsDamagedBehind, IsFound, IsFoundBehind, TakesOrder, IsUnwritten, IsSameIssuer, replayed_at_end}
 use Rattle.iso_books.specs.declared.heading.Wanted.{Wanted}
 use Rattle.iso_books.specs.declared.replaying.Replayed.{Replayed}
 use Rattle.iso_books.specs.declared.replaying.Replayed.TheVariants.{Whole, Torn, Damaged}
@@ -123,7 +123,7 @@ all_entered accounts count b file rest is so none =
 
 -- there is no record more
 pub end_found : (accounts : List Account) (count : ℕ) (b : Books) (file rest : List ℕ) (clear : Bool) → IsOf accounts b → SoFar accounts count b file rest
-    → records_of rest ≡ [] → is_clear rest ≡ clear → IsFoundBehind accounts file (ended clear b)
+    → records_of rest ≡ [] → is_clear rest ≡ clear → IsFoundBehind accounts file (replayed_at_end clear b)
 end_found accounts count b file rest true is so none clear = (all_entered accounts count b file rest is so none, so.clear_is ∙ clear)
 end_found accounts count b file rest false is so none clear = (all_entered accounts count b file rest is so none, so.clear_is ∙ clear)
 
@@ -147,14 +147,14 @@ IsLast clear file = (records_of file ≡ []) × (is_clear file ≡ clear)
 
 pub last_found : (accounts : List Account) (count : ℕ) (old new : Books) (clear : Bool) (result : Replayed) (a b mid : Option (List ℕ)) → IsOf accounts old
     → Between (SoFar accounts count old) a b → new ≡ old → Keeps b mid → IfSome mid (λ file. (records_of file ≡ []) × (is_clear file ≡ list_all is_zero file))
-    → IfSome mid (λ all. clear ≡ list_all is_zero all) → result ≡ ended clear new → IfSome a (λ rest. IsFoundBehind accounts rest result)
+    → IfSome mid (λ all. clear ≡ list_all is_zero all) → result ≡ replayed_at_end clear new → IfSome a (λ rest. IsFoundBehind accounts rest result)
 last_found accounts count old new clear result a b mid is so same kept none zeros told =
     let last = kept_both (IsLast clear) (λ file. (records_of file ≡ []) × (is_clear file ≡ list_all is_zero file)) (λ all. clear ≡ list_all is_zero all) b mid kept none zeros
     (λ x q z. (q.0, q.1 ∙ sym z)) in
-    let here : IfSome a (λ rest. IsFoundBehind accounts rest (ended clear old))
-    = between_if (SoFar accounts count old) (IsLast clear) (λ rest. IsFoundBehind accounts rest (ended clear old)) a b so last
+    let here : IfSome a (λ rest. IsFoundBehind accounts rest (replayed_at_end clear old))
+    = between_if (SoFar accounts count old) (IsLast clear) (λ rest. IsFoundBehind accounts rest (replayed_at_end clear old)) a b so last
     (λ x y p q. end_found accounts count old x y clear is p q.0 q.1) in
-    subst (λ (r : Replayed). IfSome a (λ rest. IsFoundBehind accounts rest r)) (sym (told ∙ ap (ended clear) same)) here
+    subst (λ (r : Replayed). IfSome a (λ rest. IsFoundBehind accounts rest r)) (sym (told ∙ ap (replayed_at_end clear) same)) here
 
 -- ---- behind the heading
 

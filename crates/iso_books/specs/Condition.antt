@@ -10,13 +10,13 @@ use Rattle.iso_books.specs.declared.heading.Wanted.{Wanted}
 use Rattle.iso_books.specs.declared.surveying.Condition.TheVariants.{Whole, Torn, Damaged}
 
 -- so many orders, and zeros behind them or not
-abbrev pub ended : Bool → ℕ → State
-ended true count = Whole count
-ended false count = Torn count
+abbrev pub condition_at_end : Bool → ℕ → State
+condition_at_end true count = Whole count
+condition_at_end false count = Torn count
 
 -- behind so many orders: the first record that isn't the row of its place, else how all of them end
 abbrev pub condition_from : ℕ → List (List ℕ) → Bool → State
-condition_from count [] clear = ended clear count
+condition_from count [] clear = condition_at_end clear count
 condition_from count (r ∷ rs) clear = if is_some (row_at (count + 1) r)
     then condition_from (count + 1) rs clear else Damaged (count + 1)
 

@@ -28,9 +28,9 @@ IsFound accounts file (Torn b) = HasEntered accounts (records_of file) b × (is_
 IsFound accounts file (Damaged place) = IsDamaged accounts 999999 place (records_of file)
 
 -- how a replay ends where there is no record more, and zeros alone or not
-abbrev pub ended : Bool → Books → Replayed
-ended true b = Whole b
-ended false b = Torn b
+abbrev pub replayed_at_end : Bool → Books → Replayed
+replayed_at_end true b = Whole b
+replayed_at_end false b = Torn b
 
 -- ---- behind the heading
 

@@ -3,9 +3,8 @@
 ghost use Rattle.std.specs.Prelude.{◌≡◌};
 ghost use Rattle.iso_books.specs.declared.fault.BooksFault.TheVariants.{Memory};
 
-use iso_order::NoMemory;
 use iso_record::HeadingFault;
-use std::alloc::{AllocError, AllocFailed};
+use std::alloc::AllocError;
 use thiserror::Error;
 
 /// Why a journal isn't looked into to its end.
@@ -29,22 +28,6 @@ impl From<AllocError> for BooksFault {
     ghost from_gives = { λ _ e. e ≡ Memory };
 
     fn from(_fault: AllocError) -> BooksFault {
-        BooksFault::Memory
-    }
-}
-
-impl<T: Drop> From<AllocFailed<T>> for BooksFault {
-    ghost from_gives = { λ _ e. e ≡ Memory };
-
-    fn from(_fault: AllocFailed<T>) -> BooksFault {
-        BooksFault::Memory
-    }
-}
-
-impl From<NoMemory> for BooksFault {
-    ghost from_gives = { λ _ e. e ≡ Memory };
-
-    fn from(_fault: NoMemory) -> BooksFault {
         BooksFault::Memory
     }
 }

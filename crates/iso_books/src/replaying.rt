@@ -3,7 +3,7 @@
 ghost use Rattle.std.specs.Prelude.{◌≡◌, IfErr, IfOk, IfSome};
 ghost use Rattle.iso_books.specs.Fault.{IsPlain};
 ghost use Rattle.iso_books.specs.Headings.{IsOther};
-ghost use Rattle.iso_books.specs.Replays.{Enters, IsFound, IsFoundBehind, ended};
+ghost use Rattle.iso_books.specs.Replays.{Enters, IsFound, IsFoundBehind, replayed_at_end};
 ghost use Rattle.iso_books.specs.declared.heading.Wanted.TheVariants.{Only};
 
 use crate::fault::BooksFault;
@@ -76,7 +76,7 @@ fn replay_from<R: Read + Drop>(
             Next::Damaged => return Ok(Replayed::Damaged(count + 1)),
             Next::End => {
                 let clear = is_clear(window)?;
-                return Ok(ended(clear, issuer));
+                return Ok(replayed_at_end(clear, issuer));
             }
         }
     }
@@ -85,8 +85,8 @@ fn replay_from<R: Read + Drop>(
 }
 
 /// What was found where there is no record more, and zeros alone or not.
-fn ended(clear: bool, issuer: Issuer) -> Replayed
-    ensures { result ≡ ended clear issuer }
+fn replayed_at_end(clear: bool, issuer: Issuer) -> Replayed
+    ensures { result ≡ replayed_at_end clear issuer }
 {
     if clear {
         Replayed::Whole(issuer)

@@ -1,5 +1,6 @@
 -- What a host keeps over a crash.
 use Rattle.std.specs.Prelude.{◌≡◌, ℕ, List, [], ◌∷◌, ◌++◌, take, length, nat_le, if◌then◌else◌}
+use Rattle.iso_order.specs.Codes.{system_malfunction}
 use Rattle.iso_order.specs.Order.{Instruction}
 use Rattle.iso_order.specs.Outcome.{Outcome, code_alone}
 use Rattle.iso_issuer.specs.declared.account.Account.{Account}
@@ -45,9 +46,9 @@ abbrev pub come_all : Durable → List Instruction → Durable
 come_all d [] = d
 come_all d (o ∷ os) = come_all (comes d o) os
 
--- the answer to an order: 96 where the journal is full
+-- the answer to an order: a system malfunction where the journal is full
 abbrev pub outcome : Durable → Instruction → Outcome
-outcome d o = if is_full (books_of d) o.key then code_alone 96
+outcome d o = if is_full (books_of d) o.key then code_alone system_malfunction
     else answer_for d.accounts (journal (books_of d)) o
 
 -- the answers to orders, each after those before it

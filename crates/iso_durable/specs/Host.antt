@@ -1,5 +1,6 @@
 -- An issuer over its log.
 use Rattle.std.specs.Prelude.{◌≡◌, ◌++◌, ◌∷◌, [], Bool, true, false, List, if◌then◌else◌, nat_le, length, Result, IsOk, is_err}
+use Rattle.iso_order.specs.Codes.{system_malfunction}
 use Rattle.iso_order.specs.Order.{Instruction}
 use Rattle.iso_order.specs.Outcome.{Outcome, code_alone}
 use Rattle.iso_issuer.specs.Books.{Books, is_full, journal}
@@ -44,7 +45,8 @@ is_taken b o = if is_entered b.orders o.key then false
 pub record AnswersOrder (old new : Books) (o : Instruction) (answer : Outcome)
     (is_new : Bool) : Type 0 where
   pub answer_is : answer
-      ≡ (if is_full old o.key then code_alone 96 else answer_for old.accounts (journal old) o)
+      ≡ (if is_full old o.key then code_alone system_malfunction
+      else answer_for old.accounts (journal old) o)
   pub new_is : is_new ≡ is_taken old o
   pub same : new.accounts ≡ old.accounts
   pub limit : new.limit ≡ old.limit

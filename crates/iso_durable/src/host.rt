@@ -10,8 +10,9 @@ ghost use Rattle.iso_durable.specs.Front.{LeavesFront};
 use crate::log::{Log, LogFailed};
 use iso_issuer::laws::keys_stay_distinct;
 use iso_issuer::{Accounts, Issuer, Refused};
+use iso_order::codes::SYSTEM_MALFUNCTION;
 use iso_order::{Answer, NoMemory, Order};
-use std::alloc::{AllocError, AllocFailed, Global};
+use std::alloc::Global;
 use thiserror::Error;
 
 /// Why an order has no answer. The log is then to be opened again, and no order that waits is answered.
@@ -31,18 +32,6 @@ pub enum Fault {
 impl From<LogFailed> for Fault {
     fn from(_: LogFailed) -> Fault {
         Fault::Log
-    }
-}
-
-impl From<AllocError> for Fault {
-    fn from(_: AllocError) -> Fault {
-        Fault::Memory
-    }
-}
-
-impl<T: Drop> From<AllocFailed<T>> for Fault {
-    fn from(_: AllocFailed<T>) -> Fault {
-        Fault::Memory
     }
 }
 
@@ -73,7 +62,7 @@ pub fn answer_order(issuer: &mut Issuer, order: Order) -> Result<(Answer, bool),
             let is_new = issuer.len() > before;
             Ok((answer, is_new))
         }
-        Err(Refused::Full) => Ok((Answer::only(96), false)),
+        Err(Refused::Full) => Ok((Answer::only(SYSTEM_MALFUNCTION), false)),
         Err(Refused::Memory) => Err(Fault::Memory),
     }
 }

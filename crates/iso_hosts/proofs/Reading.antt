@@ -5,7 +5,7 @@ use Rattle.std.specs.Prelude.{◌==◌, Option, Some, None, slice_get, if◌then
 use Rattle.std.proofs.lemmas.List.{take-append-le}
 use Rattle.iso_order.specs.Order.{Instruction}
 use Rattle.iso_issuer.specs.Journal.{is_entered}
-use Rattle.iso_hosts.specs.World.{World, Batch, Decided, Host, Event, orders_in, seen_by, doubted}
+use Rattle.iso_hosts.specs.World.{World, Batch, Decisions, Host, Event, orders_in, seen_by, doubted}
 use Rattle.iso_hosts.specs.World.{Receives, Sends, Arrives, Reads, Restarts}
 use Rattle.iso_hosts.specs.World.{host_at, fresh, with_host}
 use Rattle.iso_hosts.specs.World.{known_answer, decides, receives, batch_of, arrives, same_batch}
@@ -15,7 +15,7 @@ use Rattle.iso_hosts.proofs.Alone.{IssuerLaws}
 use Rattle.iso_hosts.proofs.Batches.{self_same, seen_more, same_batch_is, same_batch_self}
 
 -- the batch that it is in doubt of
-pub own_is_told : (laws : IssuerLaws) (w : World) (n : ℕ) (d : Decided)
+pub own_is_told : (laws : IssuerLaws) (w : World) (n : ℕ) (d : Decisions)
     → (w.hosts n).in_doubt ≡ Some d
     → slice_get w.kept (w.hosts n).seen ≡ Some (batch_of n (w.hosts n))
     → ((after_event w (Reads n)).told ≡ w.told ++ d.answers)
@@ -35,7 +35,7 @@ own_is_told laws w n d doubt found =
 
 -- another batch
 forgets_by : (laws : IssuerLaws) (w : World) (n : ℕ) (h : Host) (b : Batch)
-    → (IsInDoubtOf n h b → ⊥) → (doubt : Option Decided) → h.in_doubt ≡ doubt
+    → (IsInDoubtOf n h b → ⊥) → (doubt : Option Decisions) → h.in_doubt ≡ doubt
     → finds w n h b doubt ≡ forgets w n h
 forgets_by laws w n h b other None own = refl
 forgets_by laws w n h b other (Some d) own = by_test (same_batch (batch_of n h) b) refl
@@ -62,7 +62,7 @@ record SeesOneMore (w : World) (n : ℕ) (h : Host) (new : World) : Type 0 where
   pub kept : new.kept ≡ w.kept
   pub seen : (new.hosts n).seen ≡ h.seen + 1
 
-finds_sees : (w : World) (n : ℕ) (h : Host) (b : Batch) (doubt : Option Decided)
+finds_sees : (w : World) (n : ℕ) (h : Host) (b : Batch) (doubt : Option Decisions)
     → SeesOneMore w n h (finds w n h b doubt)
 finds_sees w n h b None = record { kept = refl; seen = rw (self_same n) refl }
 finds_sees w n h b (Some d) = by_test (same_batch (batch_of n h) b)
@@ -115,7 +115,7 @@ arrives_leaves w n (Some b) within = by_test (b.place == length w.kept)
     )
     by_test false = (refl, refl)
 
-finds_leaves : (w : World) (n k : ℕ) (b : Batch) (doubt : Option Decided) → (n == k) ≡ false
+finds_leaves : (w : World) (n k : ℕ) (b : Batch) (doubt : Option Decisions) → (n == k) ≡ false
     → Leaves w n (finds w k (w.hosts k) b doubt)
 finds_leaves w n k b None other = (rw other refl, rw other refl)
 finds_leaves w n k b (Some d) other = by_test (same_batch (batch_of k (w.hosts k)) b)

@@ -9,7 +9,7 @@ use Rattle.iso_issuer.specs.declared.account.Account.{Account}
 use Rattle.iso_issuer.specs.Journal.{is_entered}
 use Rattle.iso_issuer.specs.Decision.{journal_of, answer_for}
 use Rattle.iso_durable.specs.World.{Told, IsAnswered, IsStart}
-use Rattle.iso_hosts.specs.World.{World, Batch, Decided, Host, Event, orders_in, seen_by, with_host}
+use Rattle.iso_hosts.specs.World.{World, Batch, Decisions, Host, Event, orders_in, seen_by, with_host}
 use Rattle.iso_hosts.specs.World.{Receives, Sends, Arrives, Reads, Restarts, known_answer, decides}
 use Rattle.iso_hosts.specs.World.{receives, batch_of, arrives, same_batch}
 use Rattle.iso_hosts.specs.World.{tells, forgets, finds, reads}
@@ -54,7 +54,7 @@ arrives_goes w (Some b) = by_test (b.place == length w.kept)
     by_test true = record { accounts = refl; limit = refl; more = b ∷ []; kept = refl }
     by_test false = same_log w w refl refl refl
 
-finds_goes : (w : World) (n : ℕ) (h : Host) (b : Batch) (doubt : Option Decided)
+finds_goes : (w : World) (n : ℕ) (h : Host) (b : Batch) (doubt : Option Decisions)
     → GoesOn w (finds w n h b doubt)
 finds_goes w n h b None = same_log w (forgets w n h) refl refl refl
 finds_goes w n h b (Some d) = by_test (same_batch (batch_of n h) b)

@@ -10,7 +10,7 @@ use Rattle.iso_order.specs.Order.{Instruction}
 use Rattle.iso_issuer.specs.declared.account.Account.{Account}
 use Rattle.iso_issuer.specs.Journal.{is_entered}
 use Rattle.iso_durable.specs.World.{Told, Comes, happens, IsAnswered, IsStart}
-use Rattle.iso_hosts.specs.World.{World, Batch, Decided, Host, Event, orders_in, seen_by, doubted}
+use Rattle.iso_hosts.specs.World.{World, Batch, Decisions, Host, Event, orders_in, seen_by, doubted}
 use Rattle.iso_hosts.specs.World.{Receives, Sends, Arrives, Reads, Restarts}
 use Rattle.iso_hosts.specs.World.{alone, fresh, with_host, known_answer, decides, receives}
 use Rattle.iso_hosts.specs.World.{to_send, left_behind, batch_of, sends, arrives, same_batch}
@@ -23,7 +23,7 @@ use Rattle.iso_hosts.proofs.Batches.{MayFollow, AllMayFollow, all_follow_on, beg
 use Rattle.iso_hosts.proofs.Batches.{all_at, in_one_more, split_at, seen_more, same_batch_is}
 
 -- the answers in doubt are those that the orders in doubt give behind what was seen
-abbrev pub DoubtIsAnswered : List Account → List Instruction → Option Decided → Type 0
+abbrev pub DoubtIsAnswered : List Account → List Instruction → Option Decisions → Type 0
 DoubtIsAnswered accounts seen None = Unit {0}
 DoubtIsAnswered accounts seen (Some d) = AllAnswered accounts (seen ++ d.orders) d.answers
 
@@ -145,7 +145,7 @@ module _ (laws : IssuerLaws) where
   -- ---- a batch is sent, and arrives
 
   -- what it sends may follow what it has seen
-  sends_follows : (w : World) (seen : ℕ) (doubt : Option Decided) (behind : Decided)
+  sends_follows : (w : World) (seen : ℕ) (doubt : Option Decisions) (behind : Decisions)
       → IsSoundHost w.accounts w.limit w.kept
       (record { seen = seen; in_doubt = doubt; behind = behind })
       → MayFollow w.limit w.kept seen (to_send doubt behind).orders
@@ -159,7 +159,7 @@ module _ (laws : IssuerLaws) where
   }
 
   -- and it goes on to be sound
-  sent_sound : (w : World) (seen : ℕ) (doubt : Option Decided) (behind : Decided)
+  sent_sound : (w : World) (seen : ℕ) (doubt : Option Decisions) (behind : Decisions)
       → IsSoundHost w.accounts w.limit w.kept
       (record { seen = seen; in_doubt = doubt; behind = behind })
       → IsSoundHost w.accounts w.limit w.kept
@@ -227,7 +227,7 @@ module _ (laws : IssuerLaws) where
       (omega (arith, slice_get_within w.kept h.seen b e)) sound.start)
 
   -- it finds the orders that it is in doubt of
-  tells_sound : (w : World) (n seen : ℕ) (b : Batch) (d behind : Decided)
+  tells_sound : (w : World) (n seen : ℕ) (b : Batch) (d behind : Decisions)
       → slice_get w.kept seen ≡ Some b → d.orders ≡ b.orders
       → IsSoundHost w.accounts w.limit w.kept
       (record { seen = seen; in_doubt = Some d; behind = behind })
@@ -258,7 +258,7 @@ module _ (laws : IssuerLaws) where
         });
       }
 
-  finds_sound : (w : World) (n seen : ℕ) (b : Batch) (doubt : Option Decided) (behind : Decided)
+  finds_sound : (w : World) (n seen : ℕ) (b : Batch) (doubt : Option Decisions) (behind : Decisions)
       → slice_get w.kept seen ≡ Some b
       → IsSoundHost w.accounts w.limit w.kept
       (record { seen = seen; in_doubt = doubt; behind = behind })

@@ -2,12 +2,13 @@
 use Rattle.std.specs.Prelude.{◌≡◌, ◌⊎◌, ◌<◌, ◌≤◌, ℕ, ◌+◌, ◌==◌, Bool, false, Some, None}
 use Rattle.std.specs.Prelude.{List, [], ◌∷◌, ◌++◌, take, length, slice_get}
 use Rattle.std.specs.List.{AllByRecursion}
+use Rattle.iso_order.specs.Codes.{system_malfunction}
 use Rattle.iso_order.specs.Order.{Instruction}
 use Rattle.iso_order.specs.Outcome.{Outcome}
 use Rattle.iso_issuer.specs.declared.account.Account.{Account}
 use Rattle.iso_durable.specs.Durable.{syncs, come_all, outcomes}
 use Rattle.iso_durable.specs.World.{Told, IsAnswered, IsStart}
-use Rattle.iso_hosts.specs.World.{World, Batch, Decided, Host, orders_in, seen_by, host_at, fresh}
+use Rattle.iso_hosts.specs.World.{World, Batch, Decisions, Host, orders_in, seen_by, host_at, fresh}
 use Rattle.iso_hosts.specs.World.{to_send, batch_of, arrives, after_event, after_events, log_begins}
 use Rattle.iso_hosts.specs.World.{Event, Receives, Sends, Arrives, Reads, Restarts}
 
@@ -64,7 +65,7 @@ LateIsLost =
 -- with what it decided behind
 abbrev pub OwnIsTold : Type 0
 OwnIsTold =
-    (w : World) (n : ℕ) (d : Decided) →
+    (w : World) (n : ℕ) (d : Decisions) →
     (w.hosts n).in_doubt ≡ Some d →
     slice_get w.kept (w.hosts n).seen ≡ Some (batch_of n (w.hosts n)) →
     ((after_event w (Reads n)).told ≡ w.told ++ d.answers)
@@ -73,7 +74,7 @@ OwnIsTold =
 
 -- the host is in doubt of this batch
 abbrev pub IsInDoubtOf : ℕ → Host → Batch → Type 0
-IsInDoubtOf n h b = (d : Decided) × (h.in_doubt ≡ Some d) × (b ≡ batch_of n h)
+IsInDoubtOf n h b = (d : Decisions) × (h.in_doubt ≡ Some d) × (b ≡ batch_of n h)
 
 -- it was cut off, and finds another batch: it tells nothing, and forgets what it decided
 abbrev pub FencedSaysNothingNew : Type 0
@@ -145,11 +146,12 @@ CallsAreEvents =
 abbrev pub IsAmong : List Told → Told → Type 0
 IsAmong told t = (i : ℕ) × (slice_get told i ≡ Some t)
 
--- the answers to these orders were told, each to its order, but for those of 96
+-- the answers to these orders were told, each to its order, but for those of a system malfunction
 abbrev pub AreTold : List Told → List Instruction → List Outcome → Type 0
 AreTold told [] [] = Unit {0}
 AreTold told (o ∷ os) (a ∷ answers) =
-    (IsAmong told (record { order = o; answer = a }) ⊎ (a.code ≡ 96)) × AreTold told os answers
+    (IsAmong told (record { order = o; answer = a }) ⊎ (a.code ≡ system_malfunction))
+    × AreTold told os answers
 AreTold told [] (a ∷ answers) = ⊥
 AreTold told (o ∷ os) [] = ⊥
 

@@ -15,15 +15,15 @@ pub record Batch : Type 0 where
   pub orders : List Instruction
 
 -- orders that a host decided, and the answers that wait until these are kept
-pub record Decided : Type 0 where
+pub record Decisions : Type 0 where
   pub orders : List Instruction
   pub answers : List Told
 
 -- how many batches a host has seen, what it sent and is in doubt of, and what it decided behind it
 pub record Host : Type 0 where
   pub seen : ℕ
-  pub in_doubt : Option Decided
-  pub behind : Decided
+  pub in_doubt : Option Decisions
+  pub behind : Decisions
 
 -- the batches that are kept, all that were ever sent, the hosts by number, and the answers told
 pub record World : Type 0 where
@@ -55,7 +55,7 @@ abbrev pub seen_by : World → Host → List Instruction
 seen_by w h = orders_in (take h.seen w.kept)
 
 -- the orders that it is in doubt of
-abbrev pub doubted : Option Decided → List Instruction
+abbrev pub doubted : Option Decisions → List Instruction
 doubted None = []
 doubted (Some d) = d.orders
 
@@ -77,7 +77,7 @@ abbrev pub host_at : World → ℕ → Durable
 host_at w n = (alone w (w.hosts n)).host
 
 -- nothing was decided
-abbrev pub nothing : Decided
+abbrev pub nothing : Decisions
 nothing = record { orders = []; answers = [] }
 
 -- a host that has seen so many batches, and decided nothing since
@@ -117,12 +117,12 @@ receives w n h o =
 -- ---- a batch is sent, and arrives
 
 -- what a host sends: what it is in doubt of, once more; or what it decided
-abbrev pub to_send : Option Decided → Decided → Decided
+abbrev pub to_send : Option Decisions → Decisions → Decisions
 to_send None behind = behind
 to_send (Some d) behind = d
 
 -- what it has then decided behind that
-abbrev pub left_behind : Option Decided → Decided → Decided
+abbrev pub left_behind : Option Decisions → Decisions → Decisions
 left_behind None behind = nothing
 left_behind (Some d) behind = behind
 
@@ -165,7 +165,7 @@ abbrev pub same_batch : Batch → Batch → Bool
 same_batch a b = (a.place == b.place) && ((a.writer == b.writer) && same_orders a.orders b.orders)
 
 -- its own batch is kept: the answers that waited for it are told
-abbrev pub tells : World → ℕ → Host → Decided → World
+abbrev pub tells : World → ℕ → Host → Decisions → World
 tells w n h d = record w {
   hosts = with_host w.hosts n (record {
     seen = h.seen + 1;
@@ -180,7 +180,7 @@ abbrev pub forgets : World → ℕ → Host → World
 forgets w n h = record w { hosts = with_host w.hosts n (fresh (h.seen + 1)) }
 
 -- it finds this batch, and compares it with the one that it is in doubt of
-abbrev pub finds : World → ℕ → Host → Batch → Option Decided → World
+abbrev pub finds : World → ℕ → Host → Batch → Option Decisions → World
 finds w n h b None = forgets w n h
 finds w n h b (Some d) =
     if same_batch (batch_of n h) b then tells w n h d else forgets w n h

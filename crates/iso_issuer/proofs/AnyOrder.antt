@@ -22,7 +22,7 @@ use Rattle.iso_issuer.specs.Effect.{effect_of, effect_amount, is_key, is_end_of,
 use Rattle.iso_issuer.specs.Journal.{undone_key, left_by, left_at, is_nothing, is_reversed, smaller_of, is_counted_with, is_counted, is_completed, is_ended, weight}
 use Rattle.iso_issuer.specs.Balance.{share, total, ledger, available}
 use Rattle.iso_issuer.specs.Decision.{account_code, code_of, new_entry, entries_after, journal_of}
-use Rattle.iso_issuer.specs.Laws.{NoneShort, AreReordered}
+use Rattle.iso_issuer.specs.StandingLaws.{NoneShort, AreReordered}
 use Rattle.iso_issuer.proofs.Places.{found-map}
 use Rattle.iso_issuer.proofs.GoesOn.{entered-begins, orders-of}
 use Rattle.iso_issuer.proofs.Standing.{nothing-stays}

@@ -16,7 +16,7 @@ use Rattle.iso_order.specs.Key.{same_key}
 use Rattle.iso_order.specs.Order.{same_pan}
 use Rattle.iso_issuer.proofs.Keys.{same_key_is, same_pan_is}
 use Rattle.iso_issuer.specs.declared.effect.Hold.{Hold}
-use Rattle.iso_issuer.specs.Index.{key_cmp, pan_cmp, hold_cmp, bit, hold_count, mark_at, completions, hold_on, hold_by, added_by, dropped_of, dropped_at, dropped_by, AreCounts}
+use Rattle.iso_issuer.specs.Index.{key_cmp, pan_cmp, hold_cmp, bit, hold_count, mark_at, completions, hold_on, hold_by, added_by, dropped_of_entry, dropped_at_key, dropped_by_act, AreCounts}
 use Rattle.iso_order.specs.declared.act.Act.{Act}
 use Rattle.iso_order.specs.declared.act.Act.TheVariants.{Debit, Credit, Inquiry, Undo, Complete}
 use Rattle.iso_issuer.specs.declared.effect.Effect.{Effect}
@@ -115,7 +115,7 @@ added-mark k (Complete m hold) b c key pan same = by_test b ∙ ap (λ t. bit (t
 
 -- what a reversal drops is what its entry counted for and counts for no more
 dropped-mark : (l : Option ℕ) (left : ℕ) (r : Entry) (key : TxKey) (pan : AccountNumber) →
-    mark_at (dropped_of l left r) key pan + bit (is_counted_with (option_or l (Some left)) r && is_end_of key pan (effect_of r.order)) ≡ bit (is_counted_with l r && is_end_of key pan (effect_of r.order))
+    mark_at (dropped_of_entry l left r) key pan + bit (is_counted_with (option_or l (Some left)) r && is_end_of key pan (effect_of r.order)) ≡ bit (is_counted_with l r && is_end_of key pan (effect_of r.order))
 dropped-mark (Some n) left r key pan = omega arith
 dropped-mark None left r key pan = by_tests (is_some (effect_of r.order) && (r.answer.code == 0)) (left == 0) (is_end_of key pan (effect_of r.order)) (mark-hold (effect_of r.order) key pan)
   where
@@ -127,7 +127,7 @@ dropped-mark None left r key pan = by_tests (is_some (effect_of r.order) && (r.a
 
 reversed-mark : (es : List Entry) (e : Entry) (original : TxKey) (left : ℕ) (key : TxKey) (pan : AccountNumber) → e.order.act ≡ Undo original left →
     (o : Option Entry) → entry_at es original ≡ o →
-    mark_at (dropped_at es original left o) key pan + at (λ c. bit (is_counted (es ++ e ∷ []) c && is_end_of key pan (effect_of c.order))) o
+    mark_at (dropped_at_key es original left o) key pan + at (λ c. bit (is_counted (es ++ e ∷ []) c && is_end_of key pan (effect_of c.order))) o
     ≡ at (λ c. bit (is_counted es c && is_end_of key pan (effect_of c.order))) o
 reversed-mark es e original left key pan act None found = refl
 reversed-mark es e original left key pan act (Some r) found =
@@ -136,23 +136,23 @@ reversed-mark es e original left key pan act (Some r) found =
     let after : left_at (es ++ e ∷ []) r.order.key ≡ option_or (left_at es r.order.key) (Some left) =
     left-push es e r.order.key ∙ ap (λ a. option_or (left_at es r.order.key) (cond (is_key (undone_key a) r.order.key) (Some (left_by a)) None)) act
     ∙ ap (λ b. option_or (left_at es r.order.key) (cond b (Some left) None)) same in
-    ap (λ k. mark_at (dropped_of (left_at es k) left r) key pan + bit (is_counted (es ++ e ∷ []) r && is_end_of key pan (effect_of r.order))) is
-    ∙ ap (λ l. mark_at (dropped_of (left_at es r.order.key) left r) key pan + bit (is_counted_with l r && is_end_of key pan (effect_of r.order))) after
+    ap (λ k. mark_at (dropped_of_entry (left_at es k) left r) key pan + bit (is_counted (es ++ e ∷ []) r && is_end_of key pan (effect_of r.order))) is
+    ∙ ap (λ l. mark_at (dropped_of_entry (left_at es r.order.key) left r) key pan + bit (is_counted_with l r && is_end_of key pan (effect_of r.order))) after
     ∙ dropped-mark (left_at es r.order.key) left r key pan
 
 -- what a new entry adds, and what it drops
 record Marks (es : List Entry) (e : Entry) (key : TxKey) (pan : AccountNumber) : Type 0 where
-  dropped : mark_at (dropped_by es e.order.act) key pan + at (λ c. bit (is_counted (es ++ e ∷ []) c && is_end_of key pan (effect_of c.order))) (reversed_by es e.order)
+  dropped : mark_at (dropped_by_act es e.order.act) key pan + at (λ c. bit (is_counted (es ++ e ∷ []) c && is_end_of key pan (effect_of c.order))) (reversed_by es e.order)
       ≡ at (λ c. bit (is_counted es c && is_end_of key pan (effect_of c.order))) (reversed_by es e.order)
-  apart : (mark_at (dropped_by es e.order.act) key pan ≡ 0) ⊎ (mark_at (added_by es e) key pan ≡ 0)
+  apart : (mark_at (dropped_by_act es e.order.act) key pan ≡ 0) ⊎ (mark_at (added_by es e) key pan ≡ 0)
 
 marks : (es : List Entry) (e : Entry) (key : TxKey) (pan : AccountNumber) → Marks es e key pan
 marks es e key pan = by_act e.order.act refl
   where
     goal : Act → Type 0
-    goal act = (mark_at (dropped_by es act) key pan + at (λ c. bit (is_counted (es ++ e ∷ []) c && is_end_of key pan (effect_of c.order))) (option_and_then (entry_at es) (undone_key act))
+    goal act = (mark_at (dropped_by_act es act) key pan + at (λ c. bit (is_counted (es ++ e ∷ []) c && is_end_of key pan (effect_of c.order))) (option_and_then (entry_at es) (undone_key act))
         ≡ at (λ c. bit (is_counted es c && is_end_of key pan (effect_of c.order))) (option_and_then (entry_at es) (undone_key act)))
-        × ((mark_at (dropped_by es act) key pan ≡ 0) ⊎ (mark_at (cond (is_counted es e) (hold_by (effect_by e.order.key act)) None) key pan ≡ 0))
+        × ((mark_at (dropped_by_act es act) key pan ≡ 0) ⊎ (mark_at (cond (is_counted es e) (hold_by (effect_by e.order.key act)) None) key pan ≡ 0))
 
     told : (act : Act) → e.order.act ≡ act → goal act
     told (Debit m) act = (refl, inl refl)
@@ -168,7 +168,7 @@ marks es e key pan = by_act e.order.act refl
 
 -- the number of completions of a hold, after one entry more
 pub counts-entered : (es : List Entry) (e : Entry) (key : TxKey) (pan : AccountNumber) → HasDistinctKeys (map (λ e. e.order) es) →
-    completions es key pan - mark_at (dropped_by es e.order.act) key pan + mark_at (added_by es e) key pan ≡ completions (es ++ e ∷ []) key pan
+    completions es key pan - mark_at (dropped_by_act es e.order.act) key pan + mark_at (added_by es e) key pan ≡ completions (es ++ e ∷ []) key pan
 counts-entered es e key pan distinct =
     let m = marks es e key pan in
     let added : mark_at (added_by es e) key pan ≡ bit (is_counted (es ++ e ∷ []) e && is_end_of key pan (effect_of e.order)) =
@@ -196,12 +196,12 @@ at-most f (Some k) (e ∷ es) = by_test (same_key e.order.key k) (at-most f (Som
     by_test false rest = omega (arith, rest, sum_by-cons f e es)
 
 -- the hold that an entry no longer completes is counted
-pub counted-dropped : (es : List Entry) (e : Entry) (o : Option Hold) (counts : BTreeMap Hold ℕ) → AreCounts counts es → o ≡ dropped_by es e.order.act →
+pub counted-dropped : (es : List Entry) (e : Entry) (o : Option Hold) (counts : BTreeMap Hold ℕ) → AreCounts counts es → o ≡ dropped_by_act es e.order.act →
     IfSome o (λ h. 1 ≤ hold_count counts h.key h.pan)
 counted-dropped es e None counts are is = tt
 counted-dropped es e (Some h) counts are is =
     let m = marks es e h.key h.pan in
-    let own : mark_at (dropped_by es e.order.act) h.key h.pan ≡ 1 = ap (λ o. mark_at o h.key h.pan) (sym is) ∙ ap bit (same_hold h) in
+    let own : mark_at (dropped_by_act es e.order.act) h.key h.pan ≡ 1 = ap (λ o. mark_at o h.key h.pan) (sym is) ∙ ap bit (same_hold h) in
     omega (arith, own, m.dropped, are h.key h.pan, at-most (λ (c : Entry). bit (is_counted es c && is_end_of h.key h.pan (effect_of c.order))) (undone_key e.order.act) es)
   where
     same_hold : (h : Hold) → (same_key h.key h.key && same_pan h.pan h.pan) ≡ true

@@ -4,6 +4,7 @@ pub mod ByKey
 pub mod Slots
 pub mod Placed
 pub mod Changes
+pub mod Guessed
 pub mod Firsts
 pub mod Kept
 mod GoesOn

@@ -15,7 +15,7 @@ use Rattle.iso_issuer.specs.declared.found.Found.{Found}
 use Rattle.iso_issuer.specs.Effect.{effect_by, is_key}
 use Rattle.iso_issuer.specs.Journal.{entry_at, undone_key, left_by, left_at, weight}
 use Rattle.iso_issuer.specs.Found.{weight_at, reversed_by, released_by, ended_key, touched_at, entry_in, weight_in, amount_left, IsFoundFor, WasFoundFor}
-use Rattle.iso_issuer.specs.Index.{dropped_of, dropped_at, dropped_by}
+use Rattle.iso_issuer.specs.Index.{dropped_of_entry, dropped_at_key, dropped_by_act}
 use Rattle.iso_issuer.proofs.ByKey.{left-push, left-kept}
 use Rattle.iso_issuer.proofs.Keys.{same_key_is}
 use Rattle.iso_issuer.proofs.Sums.{AreApart}
@@ -82,12 +82,12 @@ found-under es (Some k) e h = found-key es k e h
 
 -- the hold that the entry no longer completes
 pub dropped-touched : (es : List Entry) (o : Instruction) (original : TxKey) (left : ℕ) (t : Touched) → o.act ≡ Undo original left → Some t ≡ touched_at es (reversed_by es o) →
-    dropped_of t.left left t.entry ≡ dropped_by es o.act
+    dropped_of_entry t.left left t.entry ≡ dropped_by_act es o.act
 dropped-touched es o original left t act found =
-    touched-of (λ t. dropped_of t.left left t.entry ≡ dropped_at es original left (entry_at es original)) es (entry_at es original) t
+    touched-of (λ t. dropped_of_entry t.left left t.entry ≡ dropped_at_key es original left (entry_at es original)) es (entry_at es original) t
     (ap (λ a. touched_at es (option_and_then (entry_at es) (undone_key a))) (sym act) ∙ sym found)
-    (λ e h. ap (λ k. dropped_of (left_at es k) left e) (sym (same_key_is original e.order.key (found-key es original e h))) ∙ ap (dropped_at es original left) (sym h))
-    ∙ ap (dropped_by es) (sym act)
+    (λ e h. ap (λ k. dropped_of_entry (left_at es k) left e) (sym (same_key_is original e.order.key (found-key es original e h))) ∙ ap (dropped_at_key es original left) (sym h))
+    ∙ ap (dropped_by_act es) (sym act)
 
 -- a reversal leaves what it leaves of the entry that it names, unless an earlier one did
 left-leaves : (es : List Entry) (e : Entry) (k : TxKey) → is_key (undone_key e.order.act) k ≡ true → option_or (left_at es k) (amount_left e.order.act) ≡ left_at (es ++ e ∷ []) k

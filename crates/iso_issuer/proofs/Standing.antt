@@ -13,7 +13,7 @@ use Rattle.iso_issuer.specs.declared.journal.Entry.{Entry}
 use Rattle.iso_issuer.specs.Effect.{effect_of, effect_by, effect_amount, is_key, same_side}
 use Rattle.iso_issuer.specs.Journal.{entry_at, undone_key, left_by, left_at, reversal_of, is_nothing, is_reversed, smaller_of, is_counted, is_completed, is_ended, is_standing, weight}
 use Rattle.iso_issuer.specs.Decision.{journal_of}
-use Rattle.iso_issuer.specs.Laws.{NoneReverses, AllReverseWholly, NeverStands}
+use Rattle.iso_issuer.specs.StandingLaws.{NoneReverses, AllReverseWholly, NeverStands}
 use Rattle.iso_issuer.proofs.GoesOn.{find-more, journal-begins, answers-kept, key-found}
 
 -- ---- which entries stand

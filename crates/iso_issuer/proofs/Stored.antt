@@ -16,7 +16,7 @@ use Rattle.iso_issuer.specs.declared.index.Index.{Index}
 use Rattle.iso_issuer.specs.declared.journal.Entry.{Entry}
 use Rattle.iso_issuer.specs.Effect.{is_key}
 use Rattle.iso_issuer.specs.Journal.{undone_key, left_by, HasDistinctKeys}
-use Rattle.iso_issuer.specs.Index.{key_cmp, hold_count, mark_at, added_by, dropped_by, entries_from, AreStored, IsIndexOf, AnswersAlike}
+use Rattle.iso_issuer.specs.Index.{key_cmp, hold_count, mark_at, added_by, dropped_by_act, entries_from, AreStored, IsIndexOf, AnswersAlike}
 use Rattle.iso_issuer.proofs.ByKey.{left-push}
 use Rattle.iso_issuer.proofs.Counts.{counts-entered}
 
@@ -114,13 +114,13 @@ entries-entered os cs s t o a same seq put =
 -- the index, once it has what an entry changes
 pub index-entered : (es : List Entry) (e : Entry) (old new : Index) → IsIndexOf old es → HasDistinctKeys (map (λ e. e.order) es) →
     ((q : TxKey) → tree.get key_cmp new.lefts q ≡ option_or (tree.get key_cmp old.lefts q) (cond (is_key (undone_key e.order.act) q) (Some (left_by e.order.act)) None)) →
-    ((q : TxKey) (pan : AccountNumber) → hold_count new.counts q pan ≡ hold_count old.counts q pan - mark_at (dropped_by es e.order.act) q pan + mark_at (added_by es e) q pan) →
+    ((q : TxKey) (pan : AccountNumber) → hold_count new.counts q pan ≡ hold_count old.counts q pan - mark_at (dropped_by_act es e.order.act) q pan + mark_at (added_by es e) q pan) →
     IsIndexOf new (es ++ e ∷ [])
 index-entered es e old new is distinct lefts counts = record {
   lefts = λ q.
       lefts q ∙ ap (λ o. option_or o (cond (is_key (undone_key e.order.act) q) (Some (left_by e.order.act)) None)) (is.lefts q) ∙ sym (left-push es e q);
   counts = λ q pan.
-      counts q pan ∙ ap (λ n. n - mark_at (dropped_by es e.order.act) q pan + mark_at (added_by es e) q pan) (is.counts q pan) ∙ counts-entered es e q pan distinct;
+      counts q pan ∙ ap (λ n. n - mark_at (dropped_by_act es e.order.act) q pan + mark_at (added_by es e) q pan) (is.counts q pan) ∙ counts-entered es e q pan distinct;
 }
 
 -- an index that finds the same

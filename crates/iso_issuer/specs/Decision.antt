@@ -1,5 +1,6 @@
 -- How an order is answered. Which case gets which code is our own rule.
 use Rattle.std.specs.Prelude.{ℕ, Bool, List, [], ◌∷◌, ◌++◌, ◌==◌, ◌&&◌, ◌+◌, length, Option, Some, None, option_map, if◌then◌else◌, ℤ, pos, int_lt, true, nat_le, nat_lt, unsigned_abs}
+use Rattle.iso_order.specs.Codes.{approved, duplicate_transmission, invalid_card_number, invalid_transaction, no_action_taken, not_sufficient_funds, system_malfunction}
 use Rattle.iso_order.specs.declared.key.TxKey.{TxKey}
 use Rattle.iso_order.specs.declared.act.Act.{Act}
 use Rattle.iso_order.specs.declared.act.Act.TheVariants.{Debit, Credit, Inquiry, Undo, Complete}
@@ -22,23 +23,27 @@ use Rattle.iso_issuer.specs.Balance.{available}
 abbrev pub is_wide : ℤ → Bool
 is_wide z = nat_lt most_amount (unsigned_abs z)
 
--- on its account: an inquiry has 96 where it can't be shown, a debit that is a request 51 where what is left of it is over the available amount
+-- on its account: an inquiry is refused where it can't be shown, and a debit that is a request where what is left of it is over the
+-- available amount
 abbrev pub amount_code : List Entry → TxKey → Option Effect → Account → ℕ
-amount_code before key None a = if is_wide (available before a) then 96 else 0
+amount_code before key None a =
+    if is_wide (available before a) then system_malfunction else approved
 amount_code before key (Some f) a = if is_drawn f.side && (function_digit key == 0)
-    && int_lt (available before a) (pos (smaller_of f.amount (left_at before key))) then 51 else 0
+    && int_lt (available before a) (pos (smaller_of f.amount (left_at before key)))
+    then not_sufficient_funds else approved
 
--- 14 without an account, 12 in another currency
+-- whether there is such an account, and whether the currency is its own
 abbrev pub account_code : List Entry → Instruction → Money → Option Account → ℕ
-account_code before o m None = 14
+account_code before o m None = invalid_card_number
 account_code before o m (Some a) =
-    if same_currency a.currency m.currency then amount_code before o.key (effect_of o) a else 12
+    if same_currency a.currency m.currency then amount_code before o.key (effect_of o) a
+    else invalid_transaction
 
--- 0 for a reversal, 21 for what is wholly reversed already
+-- a reversal is granted, and what is wholly reversed already gets no action
 abbrev pub money_code : List Account → List Entry → Instruction → Option Money → ℕ
-money_code accounts before o None = 0
+money_code accounts before o None = approved
 money_code accounts before o (Some m) =
-    if is_reversed before o.key then 21
+    if is_reversed before o.key then no_action_taken
     else account_code before o m (account_of accounts m.pan)
 
 -- the response code of a new order
@@ -82,9 +87,9 @@ journal_of accounts orders = entries_after accounts [] orders
 
 -- ---- the answer for any order
 
--- the first answer again, or 94 to another order of that key
+-- the first answer again, or that of a duplicate to another order of that key
 abbrev pub repeat_answer : Entry → Instruction → Outcome
-repeat_answer e o = if same_order e.order o then e.answer else code_alone 94
+repeat_answer e o = if same_order e.order o then e.answer else code_alone duplicate_transmission
 
 -- the answer to an order whose key has this entry, or none
 abbrev pub answer_by : List Account → List Entry → Instruction → Option Entry → Outcome

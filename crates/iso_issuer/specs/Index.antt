@@ -87,24 +87,24 @@ abbrev pub added_by : List Entry → Entry → Option Hold
 added_by entries e = if is_counted entries e then hold_by (effect_of e.order) else None
 
 -- the hold that an entry no longer completes, after a reversal that leaves so much
-abbrev pub dropped_of : Option ℕ → ℕ → Entry → Option Hold
-dropped_of (Some n) left r = None
-dropped_of None left r =
+abbrev pub dropped_of_entry : Option ℕ → ℕ → Entry → Option Hold
+dropped_of_entry (Some n) left r = None
+dropped_of_entry None left r =
     if is_counted_with None r && (left == 0) then hold_by (effect_of r.order) else None
 
 -- the same of the entry of this key, if there is one
-abbrev pub dropped_at : List Entry → TxKey → ℕ → Option Entry → Option Hold
-dropped_at entries key left None = None
-dropped_at entries key left (Some r) = dropped_of (left_at entries key) left r
+abbrev pub dropped_at_key : List Entry → TxKey → ℕ → Option Entry → Option Hold
+dropped_at_key entries key left None = None
+dropped_at_key entries key left (Some r) = dropped_of_entry (left_at entries key) left r
 
 -- the hold that is no longer completed once this is asked
-abbrev pub dropped_by : List Entry → Act → Option Hold
-dropped_by entries (Undo original left) =
-    dropped_at entries original left (entry_at entries original)
-dropped_by entries (Debit m) = None
-dropped_by entries (Credit m) = None
-dropped_by entries (Inquiry m) = None
-dropped_by entries (Complete m hold) = None
+abbrev pub dropped_by_act : List Entry → Act → Option Hold
+dropped_by_act entries (Undo original left) =
+    dropped_at_key entries original left (entry_at entries original)
+dropped_by_act entries (Debit m) = None
+dropped_by_act entries (Credit m) = None
+dropped_by_act entries (Inquiry m) = None
+dropped_by_act entries (Complete m hold) = None
 
 -- ---- the index
 

@@ -14,5 +14,6 @@ pub mod Places
 pub mod Found
 pub mod Document
 pub mod Laws
+pub mod StandingLaws
 pub mod FaultNames
 pub mod FaultNumbers

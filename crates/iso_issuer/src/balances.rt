@@ -1,11 +1,12 @@
 //! What is on each account.
 
-ghost use Rattle.std.specs.Prelude.{◌≡◌, ◌++◌, ◌∷◌, [], None, OnOk, OnErr, All, map, option_map, unsigned_abs, ◌-ℤ◌};
+ghost use Rattle.std.specs.Prelude.{◌≡◌, ◌++◌, ◌∷◌, [], None, Some, IfSome, OnOk, OnErr, All, map, option_map, unsigned_abs, ◌-ℤ◌};
 ghost use Rattle.iso_issuer.specs.Index.{account_place};
-ghost use Rattle.iso_issuer.specs.Balances.{accounts_of, balance_with, balance_at, opening_balance, balance_after, IsNear};
+ghost use Rattle.iso_issuer.specs.Balances.{accounts_of, balance_with, balance_at, opening_balance, balance_after, HasDistinctNumbers, IsNear};
 
 use crate::account::Account;
 use crate::change::Change;
+use crate::guesses::Guesses;
 use iso_order::Pan;
 use std::alloc::{AllocError, Global};
 use std::collections::BTreeMap;
@@ -29,10 +30,11 @@ pub struct PlacedBalance {
 }
 
 /// The balances of accounts, no two of one number, in the order in which they were opened. Each is
-/// found by its number.
+/// found by its number: where a guess at its place is right, by that, and else by a tree.
 #[derive(Drop)]
 pub struct Balances {
     rows: Vec<Balance>,
+    guesses: Guesses,
     places: BTreeMap<Pan, usize>,
 }
 
@@ -76,6 +78,21 @@ fn balance_with(change: Change, balance: Balance) -> Balance
     }
 }
 
+/// The guess at the place of a number, where it is right.
+#[inline(always)]
+fn right_guess(guesses: &Guesses, rows: &[Balance], pan: Pan) -> Option<usize>
+    requires { HasDistinctNumbers (accounts_of rows.now) }
+    ensures { IfSome result (λ place. account_place (accounts_of rows.now) pan ≡ Some place) }
+{
+    let place = guesses.at(pan)?;
+    let row = rows.get(place)?;
+    if row.account.pan == pan {
+        Some(place)
+    } else {
+        None
+    }
+}
+
 impl Balance {
     /// What is held, in minor units: the ledger less what is available.
     pub fn held(&self) -> u64
@@ -92,6 +109,7 @@ impl Balances {
     {
         Balances {
             rows: Vec::new(alloc),
+            guesses: Guesses::new(alloc),
             places: BTreeMap::new(alloc),
         }
     }
@@ -107,6 +125,7 @@ impl Balances {
         ensures unchanged { OnErr result (self.new ≡ self.old) }
     {
         self.rows.reserve(1)?;
+        self.guesses.note(&self.rows, account.pan)?;
         self.places.insert(account.pan, self.rows.len())?;
         let _ = self.rows.push(opening_balance(account));
         Ok(())
@@ -123,7 +142,10 @@ impl Balances {
     pub fn place(&self, pan: Pan) -> Option<usize>
         ensures { result ≡ account_place (accounts_of self.now) pan }
     {
-        Some(*self.places.get(&pan)?)
+        match right_guess(&self.guesses, &self.rows, pan) {
+            Some(place) => Some(place),
+            None => Some(*self.places.get(&pan)?),
+        }
     }
 
     /// The balance of a number and its place, where it has an account.
@@ -136,7 +158,7 @@ impl Balances {
         // there is no such account.
         ensures balance { option_map (λ r. r.balance) result ≡ balance_at self.now pan }
     {
-        let place = *self.places.get(&pan)?;
+        let place = self.place(pan)?;
         Some(PlacedBalance {
             place,
             balance: self.rows[place],

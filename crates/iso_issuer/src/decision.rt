@@ -16,6 +16,10 @@ ghost use Rattle.iso_order.specs.Order.{money_of, most_amount};
 use crate::balances::{Balance, Balances, PlacedBalance};
 use crate::effect::Effect;
 use crate::journal::{Entry, Journal, is_nothing, smaller_of};
+use iso_order::codes::{
+    APPROVED, DUPLICATE_TRANSMISSION, INVALID_CARD_NUMBER, INVALID_TRANSACTION, NO_ACTION_TAKEN,
+    NOT_SUFFICIENT_FUNDS, SYSTEM_MALFUNCTION,
+};
 use iso_order::{Act, Answer, MOST_AMOUNT, Money, Order, TxKey};
 
 /// Whether an amount has more than twelve digits.
@@ -33,15 +37,21 @@ fn amount_code(key: &TxKey, effect: &Option<Effect>, balance: &Balance, left: Op
     ensures small { result ≤ 99 }
 {
     match effect {
-        None => { if is_wide(balance.available) { 96 } else { 0 } }
+        None => {
+            if is_wide(balance.available) {
+                SYSTEM_MALFUNCTION
+            } else {
+                APPROVED
+            }
+        }
         Some(effect) => {
             if effect.side.is_drawn()
                 && key.function() == 0
                 && balance.available < smaller_of(effect.amount, left) as i64
             {
-                51
+                NOT_SUFFICIENT_FUNDS
             } else {
-                0
+                APPROVED
             }
         }
     }
@@ -64,12 +74,12 @@ fn account_code(
     ensures small { result ≤ 99 }
 {
     match placed {
-        None => 14,
+        None => INVALID_CARD_NUMBER,
         Some(placed) => {
             if placed.balance.account.currency == money.currency {
                 amount_code(&order.key(), effect, &placed.balance, left)
             } else {
-                12
+                INVALID_TRANSACTION
             }
         }
     }
@@ -112,10 +122,10 @@ fn code_of(
     ensures small { result ≤ 99 }
 {
     match order.act().money() {
-        None => 0,
+        None => APPROVED,
         Some(money) => {
             if is_nothing(left) {
-                21
+                NO_ACTION_TAKEN
             } else {
                 account_code(order, effect, &money, placed, left)
             }
@@ -171,7 +181,7 @@ pub fn new_answer(
     Answer {
         code,
         seq: journal.len() as u32 + 1,
-        shown: if code == 0 {
+        shown: if code == APPROVED {
             shown_by(placed, order)
         } else {
             None
@@ -179,13 +189,13 @@ pub fn new_answer(
     }
 }
 
-/// The answer to an order whose key has an entry: the first answer again, or 94 to another order.
+/// The answer to an order whose key has an entry: the first answer again, or that of a duplicate to another order.
 pub fn repeat_answer(entry: Entry, order: Order) -> Answer
     ensures { result ≡ repeat_answer entry order }
 {
     if entry.order.is_same(&order) {
         entry.answer
     } else {
-        Answer::only(94)
+        Answer::only(DUPLICATE_TRANSMISSION)
     }
 }

@@ -2,7 +2,7 @@
 
 ghost use Rattle.iso_order.specs.Order.{most_amount};
 ghost use Rattle.iso_issuer.specs.Effect.{is_key, effect_of, effect_amount};
-ghost use Rattle.iso_issuer.specs.Found.{touched_at, is_of_earlier, weight_in, IsFoundFor};
+ghost use Rattle.iso_issuer.specs.Found.{touched_at, weight_in, IsFoundFor, reversed_by};
 ghost use Rattle.iso_issuer.specs.declared.journal.Entry.{Entry};
 ghost use Rattle.iso_order.specs.Pan.{AccountNumber};
 ghost use Rattle.std.specs.Prelude.{◌≡◌, ◌≤◌, ◌<◌, ◌+◌, ◌-◌, ◌==◌, ◌++◌, ◌∷◌, [], if◌then◌else◌};
@@ -10,12 +10,11 @@ ghost use Rattle.std.specs.Prelude.{ℕ, List, is_some, true, false, map, Some, 
 ghost use Rattle.std.specs.BTreeMap as tree;
 ghost use Rattle.std.specs.Ordering.{nat_cmp};
 ghost use Rattle.std.specs.Option.{option_or};
-ghost use Rattle.iso_issuer.specs.Index.{added_by, dropped_of, dropped_by, key_cmp, hold_count, mark_at};
+ghost use Rattle.iso_issuer.specs.Index.{added_by, dropped_of_entry, dropped_by_act, key_cmp, hold_count, mark_at};
 ghost use Rattle.iso_issuer.specs.Journal.{entry_at, undone_key, left_by, left_at, is_nothing, smaller_of, is_counted_with, is_completed, is_ended, is_standing, weight};
 ghost use Rattle.iso_issuer.specs.Journal.{HasDistinctKeys};
-ghost use Rattle.iso_issuer.specs.Found.{reversed_by, ended_key, released_by};
 
-use crate::effect::{Effect, Hold, Side, effect_amount, effect_of, ended_by, hold_by};
+use crate::effect::{Effect, Hold, Side, effect_amount, effect_of, hold_by};
 use crate::found::{Found, Touched};
 use crate::index::Index;
 use crate::key_places::KeyPlaces;
@@ -58,26 +57,6 @@ impl Model for Journal {
         × TellsPlaces j.places.slots.items j.places.others j.orders.items };
 }
 
-/// The key that a reversal names.
-fn undone_key(order: &Order) -> Option<TxKey>
-    ensures { result ≡ undone_key order.now.act }
-{
-    match order.act() {
-        Act::Undo { original, .. } => Some(original),
-        Act::Debit(_) | Act::Credit(_) | Act::Inquiry(_) | Act::Complete { .. } => None,
-    }
-}
-
-/// Whether an order may reverse an entry or end a hold.
-fn is_of_earlier(order: &Order) -> bool
-    ensures { result ≡ is_of_earlier order.now.act }
-{
-    match order.act() {
-        Act::Undo { .. } | Act::Complete { .. } => true,
-        Act::Debit(_) | Act::Credit(_) | Act::Inquiry(_) => false,
-    }
-}
-
 /// Whether nothing is left.
 pub fn is_nothing(left: Option<u64>) -> bool
     // It is so where a reversal leaves 0, and not where there is no reversal.
@@ -112,8 +91,8 @@ fn is_counted_with(left: Option<u64>, entry: &Entry, effect: &Option<Effect>) ->
 }
 
 /// The hold that an entry no longer completes, after a reversal that leaves so much.
-fn dropped_of(before: Option<u64>, left: u64, reversed: &Entry) -> Option<Hold>
-    ensures { result ≡ dropped_of before left reversed.now }
+fn dropped_of_entry(before: Option<u64>, left: u64, reversed: &Entry) -> Option<Hold>
+    ensures { result ≡ dropped_of_entry before left reversed.now }
 {
     match before {
         Some(_) => None,
@@ -148,13 +127,13 @@ fn added_by(left: Option<u64>, entry: &Entry, effect: &Option<Effect>) -> Option
 }
 
 /// The hold that an order lets the entry that it reverses no longer complete.
-fn dropped_by(order: &Order, reversed: &Option<Touched>) -> Option<Hold>
+fn dropped_by_order(order: &Order, reversed: &Option<Touched>) -> Option<Hold>
     ensures { (es : List Entry) → reversed.now ≡ touched_at es (reversed_by es order.now)
-        → result ≡ dropped_by es order.now.act }
+        → result ≡ dropped_by_act es order.now.act }
 {
     match order.act() {
         Act::Undo { left, .. } => match reversed {
-            Some(reversed) => dropped_of(reversed.left, left, &reversed.entry),
+            Some(reversed) => dropped_of_entry(reversed.left, left, &reversed.entry),
             None => None,
         },
         Act::Debit(_) | Act::Credit(_) | Act::Inquiry(_) | Act::Complete { .. } => None,
@@ -233,7 +212,8 @@ impl Journal {
         self.index.left(key)
     }
 
-    /// Whether some entry that counts completes the hold of this key on this account.
+    /// Whether some entry that counts completes the hold of this key on this account. Apart, as few entries are holds.
+    #[inline(never)]
     fn is_completed(&self, key: TxKey, pan: Pan) -> bool
         ensures { result ≡ is_completed self.now key pan }
     {
@@ -268,6 +248,7 @@ impl Journal {
 
     /// What is left of the amount of an entry that stands, else 0. What its order does is handed in, and
     /// what the first reversal of it leaves.
+    #[inline(always)]
     pub fn weight(&self, entry: &Entry, effect: &Option<Effect>, left: Option<u64>) -> u64
         // The effect is what the entry's order does to its account.
         requires effect { effect.now ≡ effect_of entry.now.order }
@@ -291,8 +272,11 @@ impl Journal {
     }
 
     /// An entry with what the first reversal of it leaves, and its weight.
-    fn touched_at(&self, entry: Option<Entry>) -> Option<Touched>
+    pub fn touched_at(&self, entry: Option<Entry>) -> Option<Touched>
+        // It is the entry, what the first reversal of its key leaves, and what it counts for; none
+        // where there is no entry.
         ensures value { result ≡ touched_at self.now entry }
+        // What the entry counts for has at most twelve digits.
         ensures small { weight_in result ≤ most_amount }
     {
         match entry {
@@ -307,103 +291,6 @@ impl Journal {
                 })
             }
             None => None,
-        }
-    }
-
-    /// The entry that an order reverses, where there is one.
-    fn reversed_by(&self, order: &Order) -> Option<Entry>
-        ensures { result ≡ reversed_by self.now order.now }
-    {
-        match undone_key(order) {
-            Some(original) => self.get(original),
-            None => None,
-        }
-    }
-
-    /// The key of the hold that an order ends, or that it gives back by reversing what ended it.
-    fn ended_key(
-        &self,
-        order: &Order,
-        effect: &Option<Effect>,
-        reversed: &Option<Entry>,
-    ) -> Option<TxKey>
-        requires effect { effect.now ≡ effect_of order.now }
-        requires kept { IfSome effect.now (λ f. undone_key order.now.act ≡ None) }
-        requires reversed { reversed.now ≡ reversed_by self.now order.now }
-        ensures value { result ≡ ended_key self.now order.now }
-        ensures apart { (q : TxKey) → is_key result q ≡ true
-            → is_key (undone_key order.now.act) q ≡ false }
-    {
-        match ended_by(effect) {
-            Some(hold) => Some(hold),
-            None => match reversed {
-                Some(reversed) => ended_by(&effect_of(&reversed.order)),
-                None => None,
-            },
-        }
-    }
-
-    /// That hold, where it is there.
-    fn released_by(
-        &self,
-        order: &Order,
-        effect: &Option<Effect>,
-        reversed: &Option<Entry>,
-    ) -> Option<Entry>
-        requires effect { effect.now ≡ effect_of order.now }
-        requires kept { IfSome effect.now (λ f. undone_key order.now.act ≡ None) }
-        requires reversed { reversed.now ≡ reversed_by self.now order.now }
-        ensures value { result ≡ released_by self.now order.now }
-        ensures apart { (q : TxKey) → is_key (ended_key self.now order.now) q ≡ true
-            → is_key (undone_key order.now.act) q ≡ false }
-    {
-        match self.ended_key(order, effect, reversed) {
-            Some(hold) => self.get(hold),
-            None => None,
-        }
-    }
-
-    /// What the first reversal of the key of an order leaves, unless the order is a reversal.
-    fn own_left(&self, order: &Order) -> Option<u64>
-        ensures { undone_key order.now.act ≡ None → result ≡ left_at self.now order.now.key }
-    {
-        match undone_key(order) {
-            Some(_) => None,
-            None => self.left_at(order.key()),
-        }
-    }
-
-    /// What an order finds, which has this effect.
-    pub fn find(&self, order: &Order, effect: &Option<Effect>) -> Found
-        // The effect is what this order does to its account.
-        requires effect { effect.now ≡ effect_of order.now }
-        // An order with an effect of its own is no reversal.
-        requires kept { IfSome effect.now (λ f. undone_key order.now.act ≡ None) }
-        // It finds the entry that the order reverses, the hold that it ends or gives back, and,
-        // unless it is a reversal, what the first reversal of its own key leaves.
-        ensures found { IsFoundFor self.now order.now result }
-        // What the entry counts for that the order reverses has at most twelve digits.
-        ensures reversed { weight_in result.reversed ≤ most_amount }
-        // What the hold counts for that the order ends or gives back has at most twelve digits.
-        ensures released { weight_in result.released ≤ most_amount }
-        // The hold that an order ends or gives back has another key than
-        // the entry that it reverses.
-        ensures apart { (q : TxKey) → is_key (ended_key self.now order.now) q ≡ true
-            → is_key (undone_key order.now.act) q ≡ false }
-    {
-        if !is_of_earlier(order) {
-            return Found {
-                left: self.left_at(order.key()),
-                reversed: None,
-                released: None,
-            };
-        }
-        let reversed = self.reversed_by(order);
-        let released = self.released_by(order, effect, &reversed);
-        Found {
-            left: self.own_left(order),
-            reversed: self.touched_at(reversed),
-            released: self.touched_at(released),
         }
     }
 
@@ -439,7 +326,7 @@ impl Journal {
             answer,
         };
         let added = added_by(found.left, &entry, effect);
-        let dropped = dropped_by(order, &found.reversed);
+        let dropped = dropped_by_order(order, &found.reversed);
         let key = order.key();
         let place = self.orders.len() as u32;
         let slot = self.places.prepare(&self.orders, &key)?;

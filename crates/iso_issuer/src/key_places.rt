@@ -19,10 +19,13 @@ use std::collections::BTreeMap;
 const WINDOW: usize = 16;
 
 /// The fewest slots of a table that has any.
-const FEWEST_SLOTS: usize = 64;
+pub(crate) const FEWEST_SLOTS: usize = 64;
+
+/// A table of so many slots or more only doubles when it grows.
+const MANY_SLOTS: usize = 65_536;
 
 /// One more than 32 bits hold.
-const HALF: u64 = 4_294_967_296;
+pub(crate) const HALF: u64 = 4_294_967_296;
 
 /// A slot of the table.
 #[derive(Clone, Copy)]
@@ -85,6 +88,12 @@ fn window_of<'a>(slots: &'a [Slot], key: &TxKey) -> &'a [Slot]
     let (_, behind) = slots.split_at(start_of(slots.len(), key));
     let (window, _) = behind.split_at(WINDOW);
     window
+}
+
+/// How many slots a table of so many has once it has grown: a small one grows fourfold, so that it seldom does.
+fn more_slots(count: usize) -> usize {
+    let times = if count < MANY_SLOTS { 4 } else { 2 };
+    count.saturating_mul(times).max(FEWEST_SLOTS)
 }
 
 /// Whether the order at a place has this key.
@@ -245,7 +254,7 @@ impl KeyPlaces {
         Ok(places)
     }
 
-    /// Makes ready for an order of a new key behind these orders, in a larger table where this one is three quarters full: tells
+    /// Makes ready for an order of a new key behind these orders, in a larger table where this one is half full: tells
     /// the slot that is free for the key; where there is none, the tree has its place.
     pub fn prepare(&mut self, orders: &[Order], key: &TxKey) -> Result<Option<usize>, AllocError>
         // Fewer than 999,999 orders are stored.
@@ -262,8 +271,8 @@ impl KeyPlaces {
         ensures ready { IfOk result
             (IsReadyFor self.new.slots.items self.new.others (length orders.now) key.now) }
     {
-        if orders.len() >= self.slots.len() / 4 * 3 {
-            let count = self.slots.len().saturating_mul(2).max(FEWEST_SLOTS);
+        if orders.len() >= self.slots.len() / 2 {
+            let count = more_slots(self.slots.len());
             *self = KeyPlaces::grown(*self.slots.allocator(), orders, count)?;
         }
         self.ready(orders, key)

@@ -3,9 +3,9 @@
 ghost use Rattle.iso_issuer.specs.Laws.{FirstsGoOn, FirstsStay, JournalsGoOn, AnswersAreKept, RepeatsAreAnswered, EntriesAnswer};
 ghost use Rattle.iso_issuer.specs.Laws.{EntriesAreOfOrders, EnteredHasEntry, JournalsGrow, FoundHasKey, FoundStays, NewIsFound};
 ghost use Rattle.iso_issuer.specs.Laws.{KnownChangesNothing, NewComesLast, KeysStayDistinct, AnswersAreEntered};
-ghost use Rattle.iso_issuer.specs.Laws.{GrantedStands, GrantedWeighsAll, DeclinedFalls, ReversedFalls, FallenWeighsNothing};
-ghost use Rattle.iso_issuer.specs.Laws.{ReversalsStay, ReversedStays, NoneIsNone, NoneStaysNone, WhollyIsReversed};
-ghost use Rattle.iso_issuer.specs.Laws.{StandsNoMore, ReversedNeverStands, LateNeverStands, LedgersAgree, AvailableAgree};
+ghost use Rattle.iso_issuer.specs.StandingLaws.{GrantedStands, GrantedWeighsAll, DeclinedFalls, ReversedFalls, FallenWeighsNothing};
+ghost use Rattle.iso_issuer.specs.StandingLaws.{ReversalsStay, ReversedStays, NoneIsNone, NoneStaysNone, WhollyIsReversed, StandsNoMore};
+ghost use Rattle.iso_issuer.specs.StandingLaws.{ReversedNeverStands, LateNeverStands, LedgersAgree, AvailableAgree};
 
 use iso_order::laws::comparisons;
 

@@ -1,6 +1,6 @@
 mod Ascending
 mod Suffices
-mod Codes
+mod CodeLemmas
 mod Decimals
 mod Digits
 mod Fits

@@ -13,8 +13,7 @@ use Rattle.iso_parts.specs.Class.{is_digit}
 use Rattle.iso_parts.specs.PartLaws.{PartLaws}
 use Rattle.iso_parts.specs.Spec.{Fits}
 use Rattle.iso_table.specs.declared.edition87.EditionLine.{EditionLine}
-use Rattle.iso_table.specs.declared.edition87.LengthKind.TheVariants as kinds
-use Rattle.iso_table.specs.Edition87.{IsEdition87, line, none, spec_of, row87}
+use Rattle.iso_table.specs.Edition87.{IsEdition87, line, fixed, llvar, none, spec_of, row87}
 use Rattle.iso_table.specs.Layout.{Layout}
 use Rattle.iso_wire.specs.Decimal.{decimal}
 use Rattle.iso_wire.specs.OneSpelling.{WellFormed}
@@ -131,24 +130,24 @@ module _ (laws : PartLaws) (d : Digits) (t : Layout) (edition : IsEdition87 d t)
       ap (λ (r : Option FieldSpec). refused_by r n v) (edition.rows n ∙ row) ∙ ap (refused_field n) ((laws.fits (spec_of d n l) v).0 fits)
 
   -- digits of a count
-  fixed-taken : (n size : ℕ) (v : List ℕ) → row87 d n ≡ Some (spec_of d n (line n n classes.N kinds.Fixed size none)) → length v ≡ size → list_all is_digit v ≡ true → IsTaken t.rows n v
+  fixed-taken : (n size : ℕ) (v : List ℕ) → row87 d n ≡ Some (spec_of d n (line n n classes.N (fixed size) none)) → length v ≡ size → list_all is_digit v ≡ true → IsTaken t.rows n v
   fixed-taken n size v row long all =
-      taken-by n (line n n classes.N kinds.Fixed size none) v row
+      taken-by n (line n n classes.N (fixed size) none) v row
       (record { length = eq-eqb (length v) size long; class = digits_in classes.N v refl all; pad = refl })
 
   -- digits behind their length
-  counted-taken : (n most : ℕ) (v : List ℕ) → row87 d n ≡ Some (spec_of d n (line n n classes.N kinds.LL most none)) → length v ≤ most → list_all is_digit v ≡ true → IsTaken t.rows n v
+  counted-taken : (n most : ℕ) (v : List ℕ) → row87 d n ≡ Some (spec_of d n (line n n classes.N (llvar most) none)) → length v ≤ most → list_all is_digit v ≡ true → IsTaken t.rows n v
   counted-taken n most v row few all =
-      taken-by n (line n n classes.N kinds.LL most none) v row
+      taken-by n (line n n classes.N (llvar most) none) v row
       (record { length = le-leb (length v) most few; class = digits_in classes.N v refl all; pad = refl })
 
   -- letters and digits of a count
-  code-taken : (n size : ℕ) (v : List ℕ) → row87 d n ≡ Some (spec_of d n (line n n classes.AN kinds.Fixed size none)) → length v ≡ size → list_all is_letter_or_digit v ≡ true → IsTaken t.rows n v
+  code-taken : (n size : ℕ) (v : List ℕ) → row87 d n ≡ Some (spec_of d n (line n n classes.AN (fixed size) none)) → length v ≡ size → list_all is_letter_or_digit v ≡ true → IsTaken t.rows n v
   code-taken n size v row long all =
-      taken-by n (line n n classes.AN kinds.Fixed size none) v row
+      taken-by n (line n n classes.AN (fixed size) none) v row
       (record { length = eq-eqb (length v) size long; class = codes_in classes.AN v refl all; pad = refl })
 
-  number-taken : (n size v : ℕ) → row87 d n ≡ Some (spec_of d n (line n n classes.N kinds.Fixed size none)) → IsTaken t.rows n (decimal size v)
+  number-taken : (n size v : ℕ) → row87 d n ≡ Some (spec_of d n (line n n classes.N (fixed size) none)) → IsTaken t.rows n (decimal size v)
   number-taken n size v row = fixed-taken n size (decimal size v) row (length-decimal size v) (list_all-decimal size v)
 
   each-taken : (key : TxKey) (act : Act) → IfSome (money_of act) (λ m. is_account m ≡ true) → Each key act (IsTaken t.rows)

@@ -1,4 +1,5 @@
 pub mod Adding
+pub mod Codes
 pub mod Comparisons
 pub mod Fields
 pub mod Fitting

@@ -1,5 +1,5 @@
 -- The response to a message.
-use Rattle.std.specs.Prelude.{◌≡◌, ℕ, ℤ, pos, int_lt, unsigned_abs, ◌+◌, Bool, true, false, ◌==◌, ◌&&◌, ◌||◌, nat_le, nat_lt, if◌then◌else◌, List, ◌∷◌, ◌++◌, take, Option, Some, None, option_map}
+use Rattle.std.specs.Prelude.{◌≡◌, ℕ, ℤ, pos, int_lt, unsigned_abs, ◌+◌, Bool, true, false, ◌==◌, ◌&&◌, ◌||◌, nat_le, nat_lt, if◌then◌else◌, List, ◌∷◌, ◌++◌, take, codes, Option, Some, None, option_map}
 use Rattle.iso_wire.specs.Contents.{Contents}
 use Rattle.iso_wire.specs.Decimal.{decimal}
 use Rattle.iso_wire.specs.Elements.{value_in}
@@ -40,7 +40,7 @@ sign z = if int_lt z (pos 0) then 68 else 67
 
 -- what is available: account type 00, amount type 02, currency, sign and amount (element 54, additional amounts)
 abbrev pub additional : List ℕ → ℤ → List ℕ
-additional currency z = 48 ∷ 48 ∷ 48 ∷ 50 ∷ (currency ++ sign z ∷ decimal 12 (unsigned_abs z))
+additional currency z = codes "0002" ++ (currency ++ sign z ∷ decimal 12 (unsigned_abs z))
 
 -- what is available as element 54 says it, where the answer shows it
 abbrev pub balance : Contents → Outcome → Option (List ℕ)

@@ -3,6 +3,7 @@
 
 mod act;
 mod answer;
+pub mod codes;
 mod fields;
 mod key;
 pub mod laws;

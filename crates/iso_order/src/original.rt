@@ -11,6 +11,7 @@ ghost use Rattle.iso_order.specs.Verdict.{first_of, completion_lines};
 ghost use Rattle.iso_order.specs.declared.verdict.Verdict.{Verdict};
 ghost use Rattle.iso_order.specs.declared.verdict.Verdict.TheVariants.{Reply};
 
+use crate::codes::{FORMAT_ERROR, INVALID_TRANSACTION};
 use crate::fields::{base_of, has, number_from, text, type_in};
 use crate::key::TxKey;
 use iso_parts::Mti;
@@ -93,13 +94,13 @@ fn named_hold(message: &Message, key: &TxKey) -> Result<TxKey, u8>
     ensures valid { IfOk result (λ hold. is_hold_for key.now hold ≡ true) }
 {
     let Some(original) = original_of(message, key) else {
-        return Err(30);
+        return Err(FORMAT_ERROR);
     };
     if !is_hold(original.mti) {
-        return Err(12);
+        return Err(INVALID_TRANSACTION);
     }
     if !original.is_own {
-        return Err(12);
+        return Err(INVALID_TRANSACTION);
     }
     Ok(original.key)
 }

@@ -26,7 +26,7 @@ const ASKED: [u8; 9] = [2, 3, 4, 7, 11, 32, 49, 90, 95];
 const MOST_ELEMENTS: usize = 8;
 
 /// The most bytes of its values: those of a reversal that leaves a part.
-const MOST_BYTES: usize = 111;
+const LONGEST_VALUES: usize = 111;
 
 /// The processing code: goods and services, a return, or a balance inquiry.
 fn processing_code(act: &Act) -> Option<u64>
@@ -250,7 +250,7 @@ pub fn request(alloc: Global, order: &Order) -> Result<Message, NoMemory>
     let key = order.key();
     let act = order.act();
     let mti = mti_of(key.base);
-    let mut request = Message::with_room(alloc, mti, MOST_ELEMENTS, MOST_BYTES)?;
+    let mut request = Message::with_room(alloc, mti, MOST_ELEMENTS, LONGEST_VALUES)?;
     add_all(&key, &act, &ASKED, &mut request)?;
     Ok(request)
 }

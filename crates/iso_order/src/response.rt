@@ -1,6 +1,6 @@
 //! The response to a message.
 
-ghost use Rattle.std.specs.Prelude.{◌≡◌, ℕ, ◌≤◌, ◌++◌, ◌∷◌, length, take, true, false, [], OnOk, OnErr, IfOk};
+ghost use Rattle.std.specs.Prelude.{◌≡◌, ℕ, ◌≤◌, ◌++◌, ◌∷◌, codes, length, take, true, false, [], OnOk, OnErr, IfOk};
 ghost use Rattle.iso_parts.specs.Numbers.{is_element};
 ghost use Rattle.iso_parts.specs.Mti.{mti_number};
 ghost use Rattle.iso_wire.specs.Decimal.{decimal};
@@ -60,7 +60,7 @@ fn sign(shown: i64) -> u8
 /// An additional amount: account type 00, amount type 02, currency, sign and twelve digits.
 fn block(currency: &[u8], sign: u8, amount: u64) -> [u8; 20]
     requires { length currency.now ≡ 3 }
-    ensures { result ≡ 48 ∷ 48 ∷ 48 ∷ 50 ∷ (currency.now ++ sign ∷ decimal 12 amount) }
+    ensures { result ≡ codes "0002" ++ (currency.now ++ sign ∷ decimal 12 amount) }
 {
     match currency {
         [a, b, c] => {

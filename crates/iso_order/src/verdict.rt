@@ -9,11 +9,13 @@ ghost use Rattle.iso_order.specs.Fields.{is_inquiry, message_money, number_from,
 ghost use Rattle.iso_order.specs.Key.{class_digit, function_digit, is_valid_key};
 ghost use Rattle.iso_order.specs.Order.{most_amount, is_valid, is_hold_for, is_account, is_currency, is_payment};
 ghost use Rattle.iso_wire.specs.Decimal.{are_digits};
+ghost use Rattle.iso_order.specs.Codes.{invalid_transaction};
 ghost use Rattle.iso_order.specs.Verdict.{first_of, network_lines, key_lines, original_lines, reversal_lines, completion_lines};
 ghost use Rattle.iso_order.specs.Verdict.{account_lines, act_lines, amount_lines, debited_by, credit_verdict, verdict, IfReply, IfOrder};
 ghost use Rattle.iso_order.specs.Verdict.{IfAnswered};
 
 use crate::act::{Act, Money, currency_of};
+use crate::codes::{APPROVED, FORMAT_ERROR, INVALID_AMOUNT, INVALID_TRANSACTION};
 use crate::fields::{has, key_of, number_from, text, type_of};
 use crate::key::TxKey;
 use crate::order::Order;
@@ -35,12 +37,12 @@ pub enum Verdict {
 /// Class 8: sign on, sign off and the echo test.
 fn network_verdict(message: &Message) -> Verdict
     requires { class message.now ≡ 8 }
-    ensures { result ≡ first_of (network_lines message.now) (Verdict.Reply 12) }
+    ensures { result ≡ first_of (network_lines message.now) (Verdict.Reply invalid_transaction) }
 {
     match number_in(text(message, 70), 3, 3) {
-        None => Verdict::Reply(30),
-        Some(1 | 2 | 301) => Verdict::Reply(0),
-        Some(_) => Verdict::Reply(12),
+        None => Verdict::Reply(FORMAT_ERROR),
+        Some(1 | 2 | 301) => Verdict::Reply(APPROVED),
+        Some(_) => Verdict::Reply(INVALID_TRANSACTION),
     }
 }
 
@@ -74,13 +76,13 @@ fn original_verdict(message: &Message, key: &TxKey, left: u64) -> Verdict
     ensures key { IfOrder result (λ o. o.key ≡ key_of message.now) }
 {
     let Some(named) = original_of(message, key) else {
-        return Verdict::Reply(30);
+        return Verdict::Reply(FORMAT_ERROR);
     };
     if !is_original(named.mti) {
-        return Verdict::Reply(12);
+        return Verdict::Reply(INVALID_TRANSACTION);
     }
     if !named.is_own {
-        return Verdict::Reply(12);
+        return Verdict::Reply(INVALID_TRANSACTION);
     }
     let original = named.key;
     Verdict::Order(Order::valid(*key, Act::Undo { original, left }))
@@ -99,7 +101,7 @@ fn reversal_verdict(message: &Message, key: &TxKey) -> Verdict
 {
     match left_of(message) {
         Some(left) => original_verdict(message, key, left),
-        None => Verdict::Reply(30),
+        None => Verdict::Reply(FORMAT_ERROR),
     }
 }
 
@@ -170,8 +172,8 @@ fn amount_verdict(
     ensures key { IfOrder result (λ o. o.key ≡ key_of message.now) }
 {
     let amount = match number_in(text(message, 4), 12, 12) {
-        None => return Verdict::Reply(30),
-        Some(0) => return Verdict::Reply(13),
+        None => return Verdict::Reply(FORMAT_ERROR),
+        Some(0) => return Verdict::Reply(INVALID_AMOUNT),
         Some(amount) => amount,
     };
     let currency = money.currency;
@@ -213,14 +215,14 @@ fn act_verdict(
     ensures key { IfOrder result (λ o. o.key ≡ key_of message.now) }
 {
     if !is_debit(code) && !is_credit(code) && !is_inquiry(code) {
-        return Verdict::Reply(12);
+        return Verdict::Reply(INVALID_TRANSACTION);
     }
     if is_credit(code) && (key.class() == 1 || hold.is_some()) {
-        return Verdict::Reply(12);
+        return Verdict::Reply(INVALID_TRANSACTION);
     }
     if is_inquiry(code) {
         if key.function() == 2 {
-            return Verdict::Reply(12);
+            return Verdict::Reply(INVALID_TRANSACTION);
         }
         return Verdict::Order(Order::valid(*key, Act::Inquiry(money)));
     }
@@ -257,13 +259,13 @@ fn account_verdict(message: &Message, key: &TxKey, hold: Option<TxKey>) -> Verdi
     ensures key { IfOrder result (λ o. o.key ≡ key_of message.now) }
 {
     let Some(pan) = Pan::from_digits(text(message, 2)) else {
-        return Verdict::Reply(30);
+        return Verdict::Reply(FORMAT_ERROR);
     };
     let Some(code) = kind_of(text(message, 3)) else {
-        return Verdict::Reply(30);
+        return Verdict::Reply(FORMAT_ERROR);
     };
     let Some(currency) = currency_of(text(message, 49)) else {
-        return Verdict::Reply(30);
+        return Verdict::Reply(FORMAT_ERROR);
     };
     let money = account(pan, currency);
     act_verdict(message, key, hold, code, money)
@@ -301,7 +303,7 @@ fn key_verdict(message: &Message, digit: u8) -> Verdict
     ensures key { IfOrder result (λ o. o.key ≡ key_of message.now) }
 {
     let Some(key) = key_of(message) else {
-        return Verdict::Reply(30);
+        return Verdict::Reply(FORMAT_ERROR);
     };
     if digit == 4 {
         reversal_verdict(message, &key)
@@ -310,30 +312,33 @@ fn key_verdict(message: &Message, digit: u8) -> Verdict
     }
 }
 
-/// The verdict of the first line of the table that holds. A function of its own, for the prover: it alone looks into the
-/// definition of the table.
+/// The verdict on a message that is answered: that of the first line of the table that holds. For the prover it and
+/// [`order_of`] alone look into the definition of the table.
 #[tactic(auto, unfolding(crate::specs::Verdict::verdict))]
+#[inline(never)]
 fn verdict_of(message: &Message) -> Verdict
+    requires version { version message.now ≡ 0 }
+    requires asks { is_answered (function message.now) ≡ true }
     ensures verdict { result ≡ verdict message.now }
     ensures valid { IfOrder result (λ o. IsTrue (is_valid o)) }
     ensures key { IfOrder result (λ o. o.key ≡ key_of message.now) }
     ensures answered { IfAnswered result (is_answered (function message.now) ≡ true) }
 {
     let mti = type_of(message);
-    if mti.version != 0 || !matches!(mti.function, 0 | 2) {
-        return Verdict::Silent;
-    }
     if mti.origin > 5 {
-        return Verdict::Reply(12);
+        return Verdict::Reply(INVALID_TRANSACTION);
     }
     match mti.class {
         8 => network_verdict(message),
         1 | 2 | 4 => key_verdict(message, mti.class),
-        _ => Verdict::Reply(12),
+        _ => Verdict::Reply(INVALID_TRANSACTION),
     }
 }
 
-/// What a message asks: the verdict of the first line of the table that holds. Takes no memory.
+/// What a message asks: the verdict of the first line of the table that holds. Takes no memory. Whether a message is
+/// answered at all is told in the code around it.
+#[tactic(auto, unfolding(crate::specs::Verdict::verdict))]
+#[inline(always)]
 pub fn order_of(message: &Message) -> Verdict
     // The verdict is that of the first line of the table in ORDERS.md that holds.
     ensures verdict { result ≡ verdict message.now }
@@ -346,5 +351,9 @@ pub fn order_of(message: &Message) -> Verdict
     // A response code has two digits.
     ensures code { IfReply result (λ code. code ≤ 99) }
 {
+    let mti = type_of(message);
+    if mti.version != 0 || !matches!(mti.function, 0 | 2) {
+        return Verdict::Silent;
+    }
     verdict_of(message)
 }

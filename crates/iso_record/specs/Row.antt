@@ -150,7 +150,8 @@ act_by c text =
 
 -- an order, if it is one
 abbrev pub valid_order : TxKey → Act → Option Instruction
-valid_order k a = let o : Instruction = record { key = k; act = a } in if is_valid o then Some o else None
+valid_order k a =
+    let o : Instruction = record { key = k; act = a } in if is_valid o then Some o else None
 
 -- the order of its parts
 abbrev pub order_by : Option TxKey → Option Act → Option Instruction
@@ -189,7 +190,8 @@ answer_in text = answer_by (number_at text 99 2) (number_at text 101 6) (shown_i
 -- only the very bytes that are written
 abbrev pub row_if_same : List ℕ → Option Instruction → Option Outcome → Option Row
 row_if_same text (Some o) (Some a) =
-    let r : Row = record { order = o; answer = a } in if bytes_eq (row_bytes r) text then Some r else None
+    let r : Row = record { order = o; answer = a } in
+    if bytes_eq (row_bytes r) text then Some r else None
 row_if_same _ _ _ = None
 
 -- the order and the answer that 128 bytes are

@@ -13,7 +13,7 @@ use Rattle.iso_record.specs.Row.{row_bytes, row_in, is_row, RowsComeBack, RowsAr
 use Rattle.iso_shared.specs.declared.heading.Heading.{Heading as Head}
 use Rattle.iso_shared.specs.Heading.{heading_bytes, heading_in, is_heading, is_writer, HeadingsAreWhole, HeadingsComeBack, NoOtherHeading}
 use Rattle.iso_shared.specs.Read.{rows_before}
-use Rattle.iso_shared.specs.Batch.{Filed, rows_bytes, batch_bytes, row_before, rows_from, is_size, filed_by, batch_in, is_filed}
+use Rattle.iso_shared.specs.Batch.{BatchContents, rows_bytes, batch_bytes, row_before, rows_from, is_size, filed_by, batch_in, is_filed}
 
 -- what the laws of rows and of headings say
 pub record RecordLaws : Type 0 where
@@ -91,7 +91,7 @@ module _ (laws : RecordLaws) where
 
   -- ---- a batch
 
-  batch_long : (b : Filed) → is_filed b ≡ true → length (batch_bytes b) ≡ 128 * (1 + length b.rows)
+  batch_long : (b : BatchContents) → is_filed b ≡ true → length (batch_bytes b) ≡ 128 * (1 + length b.rows)
   batch_long b is =
       let both = and_parts (is_heading b.heading) (list_all is_row b.rows && nat_le (length b.rows) 8191) is in
       let rows = and_parts (list_all is_row b.rows) (nat_le (length b.rows) 8191) both.1 in
@@ -103,7 +103,7 @@ module _ (laws : RecordLaws) where
       and_from _ _ (eq-eqb (128 * (1 + n) % 128) 0 rest)
       (and_from _ _ (le-leb 128 (128 * (1 + n)) (omega arith)) (le-leb (128 * (1 + n)) 1048576 (omega (arith, few))))
 
-  pub batch_back : (b : Filed) → is_filed b ≡ true → batch_in (batch_bytes b) ≡ Some b
+  pub batch_back : (b : BatchContents) → is_filed b ≡ true → batch_in (batch_bytes b) ≡ Some b
   batch_back b is =
       let both = and_parts (is_heading b.heading) (list_all is_row b.rows && nat_le (length b.rows) 8191) is in
       let rows = and_parts (list_all is_row b.rows) (nat_le (length b.rows) 8191) both.1 in
@@ -125,7 +125,7 @@ module _ (laws : RecordLaws) where
       let even : length text % 128 ≡ 0 = eqb-true (length text % 128) 0 both.0 in
       take_all (128 * (length text / 128 - 1)) (drop 128 text) (omega (arith, length-drop 128 text, even))
 
-  pub batch_only : (text : List ℕ) (b : Filed) → batch_in text ≡ Some b → batch_bytes b ≡ text
+  pub batch_only : (text : List ℕ) (b : BatchContents) → batch_in text ≡ Some b → batch_bytes b ≡ text
   batch_only text b is = by_size (is_size (length text)) refl is
     where
       by_parts : (o : Option Head) (os : Option (List Row)) → is_size (length text) ≡ true → heading_in (slot text 0) ≡ o
@@ -144,7 +144,7 @@ module _ (laws : RecordLaws) where
       by_size true e same = by_parts (heading_in (slot text 0)) (rows_from (length text / 128 - 1) 1 text) e refl refl same
       by_size false e same = cc
 
-  pub batches_differ : (a b : Filed) → is_filed a ≡ true → is_filed b ≡ true → batch_bytes a ≡ batch_bytes b → a ≡ b
+  pub batches_differ : (a b : BatchContents) → is_filed a ≡ true → is_filed b ≡ true → batch_bytes a ≡ batch_bytes b → a ≡ b
   batches_differ a b fa fb e =
       let s : Some a ≡ Some b = sym (batch_back a fa) ∙ ap batch_in e ∙ batch_back b fb in
       cc

@@ -10,7 +10,7 @@ use Rattle.iso_issuer.specs.Journal.{is_entered}
 use Rattle.iso_issuer.specs.Decision.{answer_for}
 use Rattle.iso_durable.specs.Durable.{books_of, entered}
 use Rattle.iso_durable.specs.World.{Told}
-use Rattle.iso_hosts.specs.World.{World, Batch, Decided, Host, seen_by, doubted, host_at, nothing, with_host, known_answer, decides, to_send, left_behind, arrives, same_batch, tells, forgets, finds, reads, after_event, after_events}
+use Rattle.iso_hosts.specs.World.{World, Batch, Decisions, Host, seen_by, doubted, host_at, nothing, with_host, known_answer, decides, to_send, left_behind, arrives, same_batch, tells, forgets, finds, reads, after_event, after_events}
 use Rattle.iso_hosts.specs.World.{batch_of as sent_batch, Event, Receives, Sends, Arrives, Reads, Restarts}
 use Rattle.iso_hosts.specs.Laws.{OthersLeaveIt, LogOnlyGrows, OwnIsTold, ReadsOn, FencedSaysNothingNew}
 use Rattle.iso_shared.specs.Kept.{batch_of, batches_of}
@@ -54,7 +54,7 @@ same_books w (Arrives k) = by_batch (slice_get w.sent k)
         by_test false = (refl, refl)
 same_books w (Reads n) = by_batch (slice_get w.kept (w.hosts n).seen)
   where
-    by_doubt : (b : Batch) (doubt : Option Decided) → ((finds w n (w.hosts n) b doubt).accounts ≡ w.accounts) × ((finds w n (w.hosts n) b doubt).limit ≡ w.limit)
+    by_doubt : (b : Batch) (doubt : Option Decisions) → ((finds w n (w.hosts n) b doubt).accounts ≡ w.accounts) × ((finds w n (w.hosts n) b doubt).limit ≡ w.limit)
     by_doubt b None = (refl, refl)
     by_doubt b (Some d) = by_test (same_batch (sent_batch n (w.hosts n)) b)
       where
@@ -78,7 +78,7 @@ same_books_all (e ∷ es) w =
 pub reads_keep : (w : World) (n : ℕ) → (after_event w (Reads n)).kept ≡ w.kept
 reads_keep w n = by_batch (slice_get w.kept (w.hosts n).seen)
   where
-    by_doubt : (b : Batch) (doubt : Option Decided) → (finds w n (w.hosts n) b doubt).kept ≡ w.kept
+    by_doubt : (b : Batch) (doubt : Option Decisions) → (finds w n (w.hosts n) b doubt).kept ≡ w.kept
     by_doubt b None = refl
     by_doubt b (Some d) = by_test (same_batch (sent_batch n (w.hosts n)) b)
       where
@@ -187,7 +187,7 @@ sent_host h = record { seen = h.seen; in_doubt = Some h.behind; behind = nothing
 pub sends_host : (w : World) (n : ℕ) → (w.hosts n).in_doubt ≡ None → (after_event w (Sends n)).hosts n ≡ sent_host (w.hosts n)
 sends_host w n certain =
     host_there w.hosts n _
-    ∙ ap (λ (d : Option Decided). record {
+    ∙ ap (λ (d : Option Decisions). record {
       seen = (w.hosts n).seen;
       in_doubt = Some (to_send d (w.hosts n).behind);
       behind = left_behind d (w.hosts n).behind;

@@ -11,7 +11,7 @@ use Rattle.iso_issuer.specs.Decision.{answer_for}
 use Rattle.iso_durable.specs.Durable.{books_of, entered}
 use Rattle.iso_durable.specs.World.{Told, IsAnswered}
 use Rattle.iso_record.specs.declared.row.Row.{Row}
-use Rattle.iso_hosts.specs.World.{World, Batch, Decided, Host, seen_by, doubted, host_at, nothing, fresh, orders_in, to_send, with_host, after_event, after_events, log_begins}
+use Rattle.iso_hosts.specs.World.{World, Batch, Decisions, Host, seen_by, doubted, host_at, nothing, fresh, orders_in, to_send, with_host, after_event, after_events, log_begins}
 use Rattle.iso_hosts.specs.World.{batch_of as sent_batch, Event, Receives, Sends, Reads}
 use Rattle.iso_hosts.specs.Laws.{IsInDoubtOf, NoHostIsWrong}
 use Rattle.iso_shared.specs.declared.log.SharedLog.{SharedLog}
@@ -19,9 +19,9 @@ use Rattle.iso_shared.specs.declared.standby.Standby.{Standby}
 use Rattle.iso_shared.specs.Batch.{BatchesComeBack}
 use Rattle.iso_shared.specs.Kept.{writer_number, orders_of, seen_as, batch_of}
 use Rattle.iso_shared.specs.Log.{made, made_bytes, is_full, IsReady}
-use Rattle.iso_shared.specs.Steps.{Sends as SendsLog, AddsBy, FlushesBy}
+use Rattle.iso_shared.specs.Steps.{Sends as SendsLog, FlushesBy}
 use Rattle.iso_shared.specs.Hosts.{Knows, told_of, IsHost, AreOfOthers, OthersLeaveLogs, SendsItsBatch, IsDecided, before_adding, adding, told_by, AppendsAreEvents, before_flushing, flushing, SyncsAreEvents, SyncsTellTheLog, StartsAreRestarts, ReadingIsAnEvent, ReadersBecomeHosts}
-use Rattle.iso_shared.proofs.Logs.{filed_is, adds_ready, flushes_ready}
+use Rattle.iso_shared.proofs.Logs.{Joins, filed_is, adds_ready, flushes_ready}
 use Rattle.iso_shared.proofs.Events.{HostLaws, same_books_all, reads_keep, knows_same, knows_on, within_kept, known_at, others_leave, receives_new, made_told, host_with, host_there, sent_host, sends_host}
 
 -- ---- what one host receives
@@ -97,7 +97,7 @@ module _ (laws : HostLaws) (back : BatchesComeBack) {S P : Type 0} (kept sent : 
       ∙ ap (λ (p : ℕ). record { place = p; writer = writer_number log.writer; orders = orders_of log.rows.items }) place
       ∙ ap (λ (m : ℕ). record { place = (w.hosts n).seen; writer = m; orders = orders_of log.rows.items }) is.number
       ∙ ap (λ (l : List Instruction). record { place = (w.hosts n).seen; writer = n; orders = l }) (sym is.orders)
-      ∙ sym (ap (λ (d : Option Decided). record { place = (w.hosts n).seen; writer = n; orders = (to_send d (w.hosts n).behind).orders }) is.certain)
+      ∙ sym (ap (λ (d : Option Decisions). record { place = (w.hosts n).seen; writer = n; orders = (to_send d (w.hosts n).behind).orders }) is.certain)
 
   -- ---- a batch is sent, arrives among what others do, and is read
 
@@ -165,7 +165,7 @@ module _ (laws : HostLaws) (back : BatchesComeBack) {S P : Type 0} (kept sent : 
         let sending : entered (host_at (after_event w (Sends n)) n) ≡ seen_by w h ++ h.behind.orders =
         ap (λ (x : Host). (seen_by (after_event w (Sends n)) x ++ doubted x.in_doubt) ++ x.behind.orders) sent_there ∙ append-nil (seen_by w h ++ h.behind.orders) in
         let first : entered (host_at w n) ≡ seen_by w h ++ h.behind.orders =
-        ap (λ (d : Option Decided). (seen_by w h ++ doubted d) ++ h.behind.orders) is.certain
+        ap (λ (d : Option Decisions). (seen_by w h ++ doubted d) ++ h.behind.orders) is.certain
         ∙ ap (λ (l : List Instruction). l ++ h.behind.orders) (append-nil (seen_by w h)) in
         after ∙ read ∙ sym before ∙ ap entered left_there.1 ∙ sending ∙ sym first
 
@@ -240,7 +240,7 @@ module _ (laws : HostLaws) (back : BatchesComeBack) {S P : Type 0} (kept sent : 
   -- ---- an order is added
 
   append_by : (old new : SharedLog S P) (full : Bool) (w : World) (n : ℕ) (row : Row) (es : List Event)
-      → IsHost kept w n old → AddsBy kept sent full old new row → IsReady kept new → IsDecided w n row → AreOfOthers n es
+      → IsHost kept w n old → Joins kept sent old new full row → IsReady kept new → IsDecided w n row → AreOfOthers n es
       → Knows (after_events (before_adding n full es) w) (kept new.store)
       → IsHost kept (after_events (adding n full row.order) (after_events (before_adding n full es) w)) n new
       × ((after_events (adding n full row.order) (after_events (before_adding n full es) w)).told

@@ -1,6 +1,6 @@
 -- What the calls of a log do to its orders.
 use Rattle.std.proofs.Common.{◌≡◌, ◌∙◌, ◌⊎◌, inl, inr, ◌≤◌, ℕ, zero, suc, ◌+◌, Bool, true, false, List, [], ◌∷◌, ◌++◌, length, take, drop, append_assoc, append-nil, length-append, length-take, refl, sym, ap, subst, arith}
-use Rattle.std.specs.Prelude.{Some, slice_get}
+use Rattle.std.specs.Prelude.{Some, slice_get, MatchBool}
 use Rattle.std.proofs.lemmas.List.{take-append-le, drop-append-le, take_more, map-append}
 use Rattle.std.proofs.lemmas.Option.{slice_get_within, get_or_from_slice_get}
 use Rattle.iso_order.specs.Order.{Instruction}
@@ -8,18 +8,18 @@ use Rattle.iso_record.specs.declared.row.Row.{Row}
 use Rattle.iso_durable.specs.Front.{LeavesFront}
 use Rattle.iso_hosts.specs.World.{Batch, orders_in}
 use Rattle.iso_shared.specs.declared.log.SharedLog.{SharedLog}
-use Rattle.iso_shared.specs.Batch.{Filed, batch_bytes, is_filed, BatchesComeBack}
+use Rattle.iso_shared.specs.Batch.{BatchContents, batch_bytes, is_filed, BatchesComeBack}
 use Rattle.iso_shared.specs.Store.{Grows}
 use Rattle.iso_shared.specs.Kept.{orders_of, seen_as, batch_or_nothing, batch_of, batches_of, orders_kept}
 use Rattle.iso_shared.specs.Log.{made, made_bytes, is_full, synced_orders, known_orders, pending_orders, MayLeave, IsReady}
-use Rattle.iso_shared.specs.Steps.{Sends, Holds, Stays, AddsBy, Adds, FlushesBy, Flushes}
+use Rattle.iso_shared.specs.Steps.{Sends, Holds, Stays, Adds, FlushesBy, Flushes}
 use Rattle.iso_shared.specs.Fronts.{orders_of_both, known_is, front, since}
 
 -- the bytes of a batch that can be written are that batch
-pub filed_is : BatchesComeBack → (b : Filed) → is_filed b ≡ true → batch_of (batch_bytes b) ≡ seen_as b
+pub filed_is : BatchesComeBack → (b : BatchContents) → is_filed b ≡ true → batch_of (batch_bytes b) ≡ seen_as b
 filed_is back b is = ap batch_or_nothing (back b is)
 
-one_batch : (back : BatchesComeBack) (b : Filed) → is_filed b ≡ true → orders_in (batches_of (batch_bytes b ∷ [])) ≡ orders_of b.rows
+one_batch : (back : BatchesComeBack) (b : BatchContents) → is_filed b ≡ true → orders_in (batches_of (batch_bytes b ∷ [])) ≡ orders_of b.rows
 one_batch back b is = append-nil (batch_of (batch_bytes b)).orders ∙ ap (λ (x : Batch). x.orders) (filed_is back b is)
 
 -- a front stays where a list grows
@@ -106,11 +106,15 @@ module _ {S P : Type 0} (kept sent : S → List (List ℕ)) (old new : SharedLog
 
   -- ---- a row is added
 
+  -- it joins the batch, or begins the next one where that is full
+  abbrev pub Joins : Bool → Row → Type 0
+  Joins full row = MatchBool full (Sends kept sent old new (row ∷ [])) (Holds kept sent old new (old.rows.items ++ row ∷ []))
+
   one_more : (row : Row) (rows : List Row) → orders_of (rows ++ row ∷ []) ≡ orders_of rows ++ row.order ∷ []
   one_more row rows = map-append (λ (r : Row). r.order) rows (row ∷ [])
 
   module _ (back : BatchesComeBack) (row : Row) (is : IsReady kept old) where
-    adds_ready_by : (full : Bool) → AddsBy kept sent full old new row → new.synced ≡ old.synced → IsReady kept new
+    adds_ready_by : (full : Bool) → Joins full row → new.synced ≡ old.synced → IsReady kept new
     adds_ready_by true sends synced = record {
       known = seen_kept back (row ∷ []) sends is;
       behind = omega (arith, sends.seen, synced, is.behind);
@@ -120,14 +124,14 @@ module _ {S P : Type 0} (kept sent : S → List (List ℕ)) (old new : SharedLog
     pub adds_ready : Adds kept sent old new row → IsReady kept new
     adds_ready adds = adds_ready_by (is_full old) adds.steps adds.synced
 
-    adds_grow_by : (full : Bool) → AddsBy kept sent full old new row → Grows (kept old.store) (kept new.store)
+    adds_grow_by : (full : Bool) → Joins full row → Grows (kept old.store) (kept new.store)
     adds_grow_by true sends = sends.grows
     adds_grow_by false holds = (holds_same _ holds).grows
 
     pub adds_synced : Adds kept sent old new row → synced_orders kept new ≡ synced_orders kept old
     adds_synced adds = synced_same is (adds_grow_by (is_full old) adds.steps) adds.synced
 
-    adds_pending_by : (full : Bool) → AddsBy kept sent full old new row → new.synced ≡ old.synced → pending_orders kept new ≡ pending_orders kept old ++ row.order ∷ []
+    adds_pending_by : (full : Bool) → Joins full row → new.synced ≡ old.synced → pending_orders kept new ≡ pending_orders kept old ++ row.order ∷ []
     adds_pending_by true sends synced =
         ap (λ (l : List Instruction). l ++ orders_of new.rows.items) (since_sent back (row ∷ []) sends is synced)
         ∙ ap (λ (l : List Row). (since kept old ++ orders_of old.rows.items) ++ orders_of l) sends.rows
@@ -147,7 +151,7 @@ module _ {S P : Type 0} (kept sent : S → List (List ℕ)) (old new : SharedLog
 
   -- where it is left as it was
   left_same : IsReady kept old → Same → new.rows.items ≡ old.rows.items → (d : List Instruction) → LeavesFront (MayLeave kept new) (synced_orders kept old) (pending_orders kept old ++ d)
-  left_same is same rows d = λ c left. front (synced_orders kept old) (since kept old) (orders_of old.rows.items) d c (by_case c left)
+  left_same is same rows d = λ c left. front (synced_orders kept old) (since kept old) (orders_of old.rows.items) d (by_case c left)
     where
       known : known_orders kept new ≡ synced_orders kept old ++ since kept old
       known = known_same is same ∙ old_known is
@@ -176,7 +180,7 @@ module _ {S P : Type 0} (kept sent : S → List (List ℕ)) (old new : SharedLog
   left_sent : (back : BatchesComeBack) (rows : List Row) → Sends kept sent old new rows → IsReady kept old
       → LeavesFront (MayLeave kept new) (synced_orders kept old) (pending_orders kept old ++ orders_of rows)
   left_sent back rows sends is = λ c left.
-      let found = front (synced_orders kept old) (pending_orders kept old) (orders_of rows) [] c (by_case c left) in
+      let found = front (synced_orders kept old) (pending_orders kept old) (orders_of rows) [] (by_case c left) in
       (found.0, found.1 ∙ ap (λ (l : List Instruction). synced_orders kept old ++ take found.0 l) (append-nil (pending_orders kept old ++ orders_of rows)))
     where
       known : known_orders kept new ≡ synced_orders kept old ++ pending_orders kept old
@@ -195,7 +199,7 @@ module _ {S P : Type 0} (kept sent : S → List (List ℕ)) (old new : SharedLog
   left_held : (row : Row) → Holds kept sent old new (old.rows.items ++ row ∷ []) → IsReady kept old
       → LeavesFront (MayLeave kept new) (synced_orders kept old) (pending_orders kept old ++ row.order ∷ [])
   left_held row holds is = λ c left.
-      let found = front (synced_orders kept old) (since kept old) (orders_of new.rows.items) [] c (by_case c left) in
+      let found = front (synced_orders kept old) (since kept old) (orders_of new.rows.items) [] (by_case c left) in
       (found.0, found.1 ∙ ap (λ (l : List Instruction). synced_orders kept old ++ take found.0 l) all)
     where
       known : known_orders kept new ≡ synced_orders kept old ++ since kept old
@@ -213,7 +217,7 @@ module _ {S P : Type 0} (kept sent : S → List (List ℕ)) (old new : SharedLog
       by_case c (inl e) = inl (e ∙ known)
       by_case c (inr e) = inr (e ∙ ap (λ (l : List Instruction). l ++ orders_of new.rows.items) known)
 
-  adds_left_by : BatchesComeBack → (full : Bool) (row : Row) → AddsBy kept sent full old new row → IsReady kept old
+  adds_left_by : BatchesComeBack → (full : Bool) (row : Row) → Joins full row → IsReady kept old
       → LeavesFront (MayLeave kept new) (synced_orders kept old) (pending_orders kept old ++ row.order ∷ [])
   adds_left_by back true row sends is = left_sent back (row ∷ []) sends is
   adds_left_by back false row holds is = left_held row holds is

@@ -9,7 +9,7 @@ use Rattle.iso_shared.specs.declared.heading.Heading.{Heading as Head}
 use Rattle.iso_shared.specs.Heading.{heading_bytes, heading_in, is_heading}
 
 -- where a batch stands and who wrote it, and its orders with their answers
-pub record Filed : Type 0 where
+pub record BatchContents : Type 0 where
   pub heading : Head
   pub rows : List Row
 
@@ -21,7 +21,7 @@ rows_bytes [] = []
 rows_bytes (r ∷ rs) = row_bytes r ++ rows_bytes rs
 
 -- a batch as bytes
-abbrev pub batch_bytes : Filed → List ℕ
+abbrev pub batch_bytes : BatchContents → List ℕ
 batch_bytes b = heading_bytes b.heading ++ rows_bytes b.rows
 
 -- ---- read
@@ -41,12 +41,12 @@ abbrev pub is_size : ℕ → Bool
 is_size n = (n % 128 == 0) && (nat_le 128 n && nat_le n 1048576)
 
 -- a batch of its parts
-abbrev pub filed_by : Option Head → Option (List Row) → Option Filed
+abbrev pub filed_by : Option Head → Option (List Row) → Option BatchContents
 filed_by (Some h) (Some rs) = Some (record { heading = h; rows = rs })
 filed_by _ _ = None
 
 -- the batch that bytes are
-abbrev pub batch_in : List ℕ → Option Filed
+abbrev pub batch_in : List ℕ → Option BatchContents
 batch_in text =
     if is_size (length text)
     then filed_by (heading_in (slot text 0)) (rows_from (length text / 128 - 1) 1 text)
@@ -55,18 +55,19 @@ batch_in text =
 -- ---- what holds
 
 -- a batch that can be written
-abbrev pub is_filed : Filed → Bool
+abbrev pub is_filed : BatchContents → Bool
 is_filed b = is_heading b.heading && (list_all is_row b.rows && nat_le (length b.rows) 8191)
 
 -- each batch comes back,
 abbrev pub BatchesComeBack : Type 0
-BatchesComeBack = (b : Filed) → is_filed b ≡ true → batch_in (batch_bytes b) ≡ Some b
+BatchesComeBack = (b : BatchContents) → is_filed b ≡ true → batch_in (batch_bytes b) ≡ Some b
 
 -- nothing else is read as one,
 abbrev pub NothingElse : Type 0
-NothingElse = (text : List ℕ) (b : Filed) → batch_in text ≡ Some b → batch_bytes b ≡ text
+NothingElse = (text : List ℕ) (b : BatchContents) → batch_in text ≡ Some b → batch_bytes b ≡ text
 
 -- and two batches have two texts
 abbrev pub BatchesDiffer : Type 0
 BatchesDiffer =
-    (a b : Filed) → is_filed a ≡ true → is_filed b ≡ true → batch_bytes a ≡ batch_bytes b → a ≡ b
+    (a b : BatchContents) → is_filed a ≡ true → is_filed b ≡ true → batch_bytes a ≡ batch_bytes b
+    → a ≡ b

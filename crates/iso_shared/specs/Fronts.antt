@@ -43,12 +43,19 @@ known_is kept synced seen le =
     ++ orders_in (batches_of (drop synced (take seen kept)))) (take_take synced seen kept le)
 
 -- some of the orders behind the synced ones, from the front
-pub front : (synced a b d c : List Instruction) → (c ≡ synced ++ a) ⊎ (c ≡ (synced ++ a) ++ b)
+pub front : (synced a b d : List Instruction) → {c : List Instruction}
+    → (c ≡ synced ++ a) ⊎ (c ≡ (synced ++ a) ++ b)
     → (n : ℕ) × (c ≡ synced ++ take n ((a ++ b) ++ d))
-front synced a b d c (inl e) =
-    (length a, e ∙ ap (λ (l : List Instruction). synced ++ l) (sym (ap (take (length a)) (append_assoc a b d) ∙ take-append_seam a (b ++ d))))
-front synced a b d c (inr e) =
-    (length (a ++ b), e ∙ append_assoc synced a b ∙ ap (λ (l : List Instruction). synced ++ l) (sym (take-append_seam (a ++ b) d)))
+front synced a b d {c} (inl e) = (
+  length a,
+  e ∙ ap (λ (l : List Instruction). synced ++ l)
+      (sym (ap (take (length a)) (append_assoc a b d) ∙ take-append_seam a (b ++ d))),
+)
+front synced a b d {c} (inr e) = (
+  length (a ++ b),
+  e ∙ append_assoc synced a b
+      ∙ ap (λ (l : List Instruction). synced ++ l) (sym (take-append_seam (a ++ b) d)),
+)
 
 module _ {S P : Type 0} (kept : S → List (List ℕ)) (log : SharedLog S P) where
   -- the orders of the batches since the last sync
@@ -59,10 +66,15 @@ module _ {S P : Type 0} (kept : S → List (List ℕ)) (log : SharedLog S P) whe
   pub ready_leaves : IsReady kept log
       → LeavesFront (MayLeave kept log) (synced_orders kept log) (pending_orders kept log)
   ready_leaves is = λ c left.
-      let known : known_orders kept log ≡ synced_orders kept log ++ since = known_is (kept log.store) log.synced log.seen is.behind in
+      let known : known_orders kept log ≡ synced_orders kept log ++ since =
+      known_is (kept log.store) log.synced log.seen is.behind in
       let rows = orders_of log.rows.items in
-      let found = front (synced_orders kept log) since rows [] c (by_known c known left) in
-      (found.0, found.1 ∙ ap (λ (l : List Instruction). synced_orders kept log ++ take found.0 l) (append-nil (since ++ rows)))
+      let found = front (synced_orders kept log) since rows [] (by_known c known left) in (
+        found.0,
+        found.1
+            ∙ ap (λ (l : List Instruction). synced_orders kept log ++ take found.0 l)
+            (append-nil (since ++ rows)),
+      )
     where
       by_known : (c : List Instruction) → known_orders kept log ≡ synced_orders kept log ++ since
           → (c ≡ known_orders kept log) ⊎ (c ≡ known_orders kept log ++ orders_of log.rows.items)

@@ -4,7 +4,7 @@ use Rattle.iso_order.specs.Order.{Instruction}
 use Rattle.iso_record.specs.declared.row.Row.{Row}
 use Rattle.iso_hosts.specs.World.{Batch, orders_in}
 use Rattle.iso_shared.specs.declared.heading.Writer.{Writer}
-use Rattle.iso_shared.specs.Batch.{Filed, batch_in}
+use Rattle.iso_shared.specs.Batch.{BatchContents, batch_in}
 
 -- the number that bytes are, the highest first, behind those of `before`
 abbrev pub number_behind : ℕ → List ℕ → ℕ
@@ -20,7 +20,7 @@ abbrev pub orders_of : List Row → List Instruction
 orders_of rows = map (λ r. r.order) rows
 
 -- a batch as those hosts see it, who count the places from 0 on
-abbrev pub seen_as : Filed → Batch
+abbrev pub seen_as : BatchContents → Batch
 seen_as b = record {
   place = b.heading.place - 1;
   writer = writer_number b.heading.writer;
@@ -28,7 +28,7 @@ seen_as b = record {
 }
 
 -- bytes that are no batch: no store that was opened has them
-abbrev pub batch_or_nothing : Option Filed → Batch
+abbrev pub batch_or_nothing : Option BatchContents → Batch
 batch_or_nothing (Some b) = seen_as b
 batch_or_nothing None = record { place = 0; writer = 0; orders = [] }
 

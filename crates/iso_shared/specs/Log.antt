@@ -3,11 +3,11 @@ use Rattle.std.specs.Prelude.{◌≡◌, ◌≤◌, ◌⊎◌, ℕ, ◌+◌, nat
 use Rattle.iso_order.specs.Order.{Instruction}
 use Rattle.iso_hosts.specs.World.{orders_in}
 use Rattle.iso_shared.specs.declared.log.SharedLog.{SharedLog}
-use Rattle.iso_shared.specs.Batch.{Filed, batch_bytes}
+use Rattle.iso_shared.specs.Batch.{BatchContents, batch_bytes}
 use Rattle.iso_shared.specs.Kept.{orders_of, batches_of, orders_kept}
 
 -- the batch that is being made: for the place behind those that are known
-abbrev pub made : {S P : Type 0} → SharedLog S P → Filed
+abbrev pub made : {S P : Type 0} → SharedLog S P → BatchContents
 made log = record {
   heading = record { place = log.seen + 1; writer = log.writer };
   rows = log.rows.items;

@@ -1,6 +1,6 @@
 -- What the calls of a log do.
-use Rattle.std.specs.Prelude.{◌≡◌, ◌≢◌, ℕ, ◌+◌, Bool, true, false, List, [], ◌∷◌, ◌++◌}
-use Rattle.std.specs.Prelude.{Option, Some, None, Result, Ok, Err, slice_get}
+use Rattle.std.specs.Prelude.{◌≡◌, ◌≢◌, ℕ, ◌+◌, true, false, List, [], ◌∷◌, ◌++◌}
+use Rattle.std.specs.Prelude.{Some, None, Result, Ok, Err, slice_get, IsSomeAnd, MatchBool, MatchOption}
 use Rattle.iso_record.specs.declared.row.Row.{Row}
 use Rattle.iso_durable.specs.declared.log.LogFailed.{LogFailed}
 use Rattle.iso_shared.specs.declared.log.SharedLog.{SharedLog}
@@ -47,14 +47,10 @@ module _ {S P : Type 0} (kept sent : S → List (List ℕ)) where
   IsWhy old new TooLarge = is_filed (made old) ≡ false
   IsWhy old new Memory = sent new.store ≡ sent old.store
 
-  -- a row joins the batch, or begins the next one where that is full
-  abbrev pub AddsBy : Bool → SharedLog S P → SharedLog S P → Row → Type 0
-  AddsBy true old new row = Sends old new (row ∷ [])
-  AddsBy false old new row = Holds old new (old.rows.items ++ row ∷ [])
-
-  -- a row is added
+  -- a row is added: it joins the batch, or begins the next one where that is full
   pub record Adds (old new : SharedLog S P) (row : Row) : Type 0 where
-    pub steps : AddsBy (is_full old) old new row
+    pub steps : MatchBool (is_full old) (Sends old new (row ∷ []))
+        (Holds old new (old.rows.items ++ row ∷ []))
     pub synced : new.synced ≡ old.synced
 
   -- the batch is sent, if it has an order
@@ -67,13 +63,8 @@ module _ {S P : Type 0} (kept sent : S → List (List ℕ)) where
     pub steps : FlushesBy old.rows.items old new
     pub synced : new.synced ≡ new.seen
 
-  -- the reason that a log has now, if it had none before
-  abbrev pub IsNewWhy : Option Why → Option Why → SharedLog S P → SharedLog S P → Type 0
-  IsNewWhy None None old new = ⊥
-  IsNewWhy None (Some why) old new = IsWhy old new why
-  IsNewWhy (Some before) now old new = now ≡ Some before
-
   -- it succeeds only where no call failed before, and tells why from then on
   abbrev pub Fails : SharedLog S P → SharedLog S P → Result Unit LogFailed → Type 0
   Fails old new (Ok done) = (old.failure ≡ None) × (new.failure ≡ None)
-  Fails old new (Err e) = IsNewWhy old.failure new.failure old new
+  Fails old new (Err e) = MatchOption old.failure (IsSomeAnd new.failure (IsWhy old new))
+      (λ before. new.failure ≡ Some before)

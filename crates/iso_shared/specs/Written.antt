@@ -6,7 +6,7 @@ use Rattle.iso_issuer.specs.Books.{Books}
 use Rattle.iso_issuer.specs.Decision.{journal_of, answer_for}
 use Rattle.iso_durable.specs.Host.{is_taken}
 use Rattle.iso_record.specs.declared.row.Row.{Row}
-use Rattle.iso_shared.specs.Batch.{Filed, batch_in}
+use Rattle.iso_shared.specs.Batch.{BatchContents, batch_in}
 
 -- a host with these orders writes this row: its key is new, there is room, and the answer is the one that they give
 pub record IsWritten (accounts : List Account) (limit : ℕ) (before : List Instruction)
@@ -23,7 +23,7 @@ AreWritten accounts limit before (r ∷ rs) =
 
 -- the bytes are a batch that a host with the books of the batches before writes at this place
 pub record IsNext (books : Books) (place : ℕ) (bytes : List ℕ) : Type 0 where
-  pub batch : Filed
+  pub batch : BatchContents
   pub is : batch_in bytes ≡ Some batch
   pub here : batch.heading.place ≡ place
   pub rows : AreWritten books.accounts books.limit books.orders batch.rows

@@ -14,7 +14,7 @@ use std::alloc::AllocError;
 pub const MOST_ROWS: usize = 8191;
 
 /// The most bytes that a batch has.
-pub const MOST_BYTES: usize = 1_048_576;
+pub const MOST_BATCH_BYTES: usize = 1_048_576;
 
 /// Adds the records of rows.
 fn add_rows(out: &mut Vec<u8>, rows: &[Row]) -> Result<(), AllocError>

@@ -14,7 +14,7 @@ mod standby;
 mod store;
 mod why;
 
-pub use batch::{MOST_BYTES, MOST_ROWS, write_batch};
+pub use batch::{MOST_BATCH_BYTES, MOST_ROWS, write_batch};
 pub use heading::{Heading, MOST_PLACES, Writer, heading_bytes, read_heading};
 pub use log::SharedLog;
 pub use memory::{MemoryStore, Turn};

@@ -1,11 +1,11 @@
 //! Reading a batch.
 ghost use Rattle.std.specs.Prelude.{◌≡◌, ◌≤◌, ◌*◌, ◌+◌, ◌-◌, length, true, Some, None, IfOk, IsErrOf};
 ghost use Rattle.iso_log.specs.Slots.{slot};
-ghost use Rattle.iso_shared.specs.Batch.{Filed, batch_bytes, batch_in, rows_from, is_size, is_filed};
+ghost use Rattle.iso_shared.specs.Batch.{BatchContents, batch_bytes, batch_in, rows_from, is_size, is_filed};
 ghost use Rattle.iso_shared.specs.Read.{filed_of};
 ghost use Rattle.iso_shared.specs.declared.reading.ReadFault.TheVariants.{Memory};
 
-use crate::batch::MOST_BYTES;
+use crate::batch::MOST_BATCH_BYTES;
 use crate::heading::{Heading, read_heading};
 use crate::laws::batches_come_back;
 use iso_log::RECORD;
@@ -79,7 +79,7 @@ fn read_rows(alloc: Global, text: &[u8], count: usize) -> Result<Vec<Row>, ReadF
 fn is_size(len: usize) -> bool
     ensures { result ≡ is_size len }
 {
-    len % RECORD == 0 && RECORD <= len && len <= MOST_BYTES
+    len % RECORD == 0 && RECORD <= len && len <= MOST_BATCH_BYTES
 }
 
 /// As `read_batch`, by the parts.
@@ -104,7 +104,7 @@ pub fn read_batch(alloc: Global, text: &[u8]) -> Result<Batch, ReadFault>
     // Bytes are refused as no batch only where they are none.
     ensures none { IsErrOf result ReadFault.Format → batch_in text.now ≡ None }
     // Of the bytes that are written for a batch, no other batch is read.
-    ensures back { (b : Filed) → is_filed b ≡ true → batch_bytes b ≡ text.now
+    ensures back { (b : BatchContents) → is_filed b ≡ true → batch_bytes b ≡ text.now
         → IfOk result (λ r. filed_of r ≡ b) }
     // Bytes that are read as a batch are those that are written for it.
     ensures only { IfOk result (λ b. batch_bytes (filed_of b) ≡ text.now) }

@@ -17,8 +17,8 @@ returns-in-End-clause-found g c =
     let new = c.enter_next.new in
     let Then : Next → Type 0 = λ next. Enters l.issuer new.issuer next l.window.ahead new.window.ahead in
     let last = subst Then c.in-End.is c.in_ok-enter_next.ensures.enters in
-    last_found c.args.accounts l.count l.issuer new.issuer c.in_ok-clear-in-End.clear c.ended.result c.args.window.now.ahead l.window.ahead new.window.ahead
-    l.invariant.is_of l.invariant.so last.0 last.1 last.2 c.in_ok-clear-in-End.ensures.clear c.ended.ensures
+    last_found c.args.accounts l.count l.issuer new.issuer c.in_ok-clear-in-End.clear c.replayed_at_end.result c.args.window.now.ahead l.window.ahead new.window.ahead
+    l.invariant.is_of l.invariant.so last.0 last.1 last.2 c.in_ok-clear-in-End.ensures.clear c.replayed_at_end.ensures
 
 pub loop-count-preserved : goal.loop-count-preserved
 loop-count-preserved g c =

@@ -15,7 +15,7 @@ returns-in-Ok g c = record {
       let old = c.args.before.now in
       let host = c.in-Ok.host in
       let seen = g.D.Disk.seen in
-      let found = ready_leaves seen g.D.Disk.may_leave g.D.Disk.is_usable old.log.log is.ready (journal_orders (records_of (seen c.args.disk))) (seen c.args.disk, left, refl) in (
+      let found = ready_leaves old.log.log is.ready (journal_orders (records_of (seen c.args.disk))) (seen c.args.disk, left, refl) in (
         found.0,
         same_state host.issuer.accounts old.issuer.accounts host.issuer.limit old.issuer.limit host.issuer.orders (synced_orders seen host.log.log) (pending_orders seen host.log.log)
             (synced_orders seen old.log.log ++ take found.0 (pending_orders seen old.log.log))

@@ -1,4 +1,4 @@
-use Rattle.iso_order.proofs.Codes.{verdict_small}
+use Rattle.iso_order.proofs.CodeLemmas.{verdict_small}
 use Rattle.iso_order.proofs.verdict.order_of.Goals as goal
 
 pub returns-clause-code : goal.returns-clause-code

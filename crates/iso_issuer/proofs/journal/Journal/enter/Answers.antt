@@ -3,7 +3,7 @@ use Rattle.std.specs.Prelude.{None, map}
 use Rattle.std.proofs.lemmas.Grind.{common_steps}
 use Rattle.iso_issuer.specs.declared.journal.Entry.{Entry}
 use Rattle.iso_issuer.specs.Journal.{entry_at, HasDistinctKeys}
-use Rattle.iso_issuer.specs.Index.{dropped_by, entries_from, IsIndexOf, hold_count, mark_at}
+use Rattle.iso_issuer.specs.Index.{dropped_by_act, entries_from, IsIndexOf, hold_count, mark_at}
 use Rattle.iso_issuer.specs.Places.{key_place, TellsPlaces, IsReadyFor}
 use Rattle.iso_issuer.proofs.ByKey.{place_of-none}
 use Rattle.iso_issuer.proofs.Counts.{few-counted, counted-dropped}
@@ -52,8 +52,8 @@ store-requires-clause-counted c =
     let i = c.self.inside in
     let es = entries_from 0 i.orders.items i.codes.items i.shown in
     let entry : Entry = record { order = c.args.order.now; answer = c.args.answer } in
-    counted-dropped es entry c.dropped_by-dropped.result i.index.counts c.self.invariant.0.indexed.counts
-    (c.dropped_by-dropped.ensures es (rw c.self.view_is c.requires.found.reversed))
+    counted-dropped es entry c.dropped_by_order-dropped.result i.index.counts c.self.invariant.0.indexed.counts
+    (c.dropped_by_order-dropped.ensures es (rw c.self.view_is c.requires.found.reversed))
 
 pub settle-requires-clause-few : goal.settle-requires-clause-few
 settle-requires-clause-few c =
@@ -85,8 +85,8 @@ invariant_of-self-in-Ok c =
     index-entered es entry i.index c.store.new.index c.self.invariant.0.indexed distinct e.lefts
     (λ q pan.
     e.counts q pan
-    ∙ ap (λ h. hold_count i.index.counts q pan - mark_at h q pan + mark_at c.added_by-added.result q pan) (c.dropped_by-dropped.ensures es (rw c.self.view_is c.requires.found.reversed))
-    ∙ ap (λ h. hold_count i.index.counts q pan - mark_at (dropped_by es o.act) q pan + mark_at h q pan) (c.added_by-added.ensures es (rw c.self.view_is c.requires.found.own))) in
+    ∙ ap (λ h. hold_count i.index.counts q pan - mark_at h q pan + mark_at c.added_by-added.result q pan) (c.dropped_by_order-dropped.ensures es (rw c.self.view_is c.requires.found.reversed))
+    ∙ ap (λ h. hold_count i.index.counts q pan - mark_at (dropped_by_act es o.act) q pan + mark_at h q pan) (c.added_by-added.ensures es (rw c.self.view_is c.requires.found.own))) in
     let put : IsPut (length os) c.args.answer.shown i.shown c.store.new.shown = e.shown in
     let told : TellsPlaces c.prepare.new.self.slots.items c.prepare.new.self.others os =
     subst (TellsPlaces c.prepare.new.self.slots.items c.prepare.new.self.others) c.deref.ensures.value c.prepare.ensures.told in
