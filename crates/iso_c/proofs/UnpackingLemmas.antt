@@ -7,28 +7,29 @@ use Rattle.iso_wire.specs.Contents.{Contents}
 use Rattle.iso_wire.specs.Reading.{message_at}
 use Rattle.iso_wire.specs.Spelling.{BeginsWith}
 use Rattle.iso_c.specs.declared.fault.RumpadolFault.{RumpadolFault}
-use Rattle.iso_c.specs.declared.parts.RumpadolPart.{RumpadolPart}
 use Rattle.iso_c.specs.declared.parts.RumpadolMessage.{RumpadolMessage}
 use Rattle.iso_c.specs.declared.unpacking.SpreadMessage.{SpreadMessage}
 use Rattle.iso_c.specs.Parts.{elements_in, parts_from, values_of}
 use Rattle.iso_c.specs.Spreading.{IsSpread, IsSpreadHeld, GivesMessage, GivesSpread}
-use Rattle.iso_c.specs.Unpacking.{IsReadFaultHeld, Unpacked, IsUnpackReply, read_fault, given_fault, room_fault}
+use Rattle.iso_c.specs.Unpacking.{Holding, Holdings, IsReadFaultHeld, Unpacks, IsUnpackReply, read_fault, given_fault, room_fault}
 use Rattle.iso_c.proofs.SpreadingLemmas.{Values, told, length_parts}
 
 pub within : (t : Option Layout) (b : List ℕ) (found : SpreadMessage) → IsSpreadHeld t b found → found.used ≤ length b
 within (Some t) b found is = is.begins.0
 within None b found is = absurd is
 
-unpacked : (t : Layout) (b : List ℕ) (found : SpreadMessage) (used : ℕ) (new : RumpadolMessage) (parts_old parts : List RumpadolPart) (values_old values : List ℕ)
-    → IsSpread t b found → GivesSpread found used new parts_old parts values_old values → Unpacked t b used new parts_old parts values_old values
-unpacked t b found used new parts_old parts values_old values is gives =
+unpacks : (t : Layout) (b : List ℕ) (found : SpreadMessage) (used : ℕ) (held : Holdings)
+    → IsSpread t b found → GivesSpread found used held → Unpacks t b used held
+unpacks t b found used held is gives =
+    let parts = held.new.parts in
+    let values = held.new.values in
     let es : Values = is.m.elements in
     let k : ℕ = length found.parts.items in
     let n : ℕ = length found.values.items in
     let parts_are : take k parts ≡ parts_from 0 es = gives.parts_are ∙ is.parts in
     let values_are : take n values ≡ values_of es = gives.values_are ∙ is.values in
     let split : values ≡ values_of es ++ drop n values = sym (take-append-drop n values) ∙ ap (λ (l : List ℕ). l ++ drop n values) values_are in
-    subst (λ (m : RumpadolMessage). Unpacked t b used m parts_old parts values_old values) (sym gives.message) (record {
+    subst (λ (m : RumpadolMessage). Unpacks t b used (record { old = held.old; new = record { message = m; parts = parts; values = values } })) (sym gives.message) (record {
       m = is.m;
       begins = subst (λ (u : ℕ). BeginsWith t is.m u b) (sym gives.used_is) is.begins;
       mti = is.mti;
@@ -41,13 +42,13 @@ unpacked t b found used new parts_old parts values_old values is gives =
       lies = ap (elements_in values) parts_are ∙ ap (λ (l : List ℕ). elements_in l (parts_from 0 es)) split ∙ told [] es (drop n values);
     })
 
-pub given : (t : Option Layout) (b : List ℕ) (found : SpreadMessage) (z : ℤ) (old new : RumpadolMessage) (parts_old parts : List RumpadolPart) (values_old values : List ℕ) (f : RumpadolFault)
-    → IsSpreadHeld t b found → GivesMessage found z old new parts_old parts values_old values f → IsUnpackReply t b z old new parts_old parts values_old values f
-given None b found z old new parts_old parts values_old values f is gives = absurd is
-given (Some t) b found (pos used) old new parts_old parts values_old values f is gives = unpacked t b found used new parts_old parts values_old values is gives
-given (Some t) b found (negsuc k) old new parts_old parts values_old values f is gives =
-    let places : ℕ = length parts_old in
-    let room : ℕ = length values_old in
+pub given : (t : Option Layout) (b : List ℕ) (found : SpreadMessage) (z : ℤ) (held : Holdings) (f : RumpadolFault)
+    → IsSpreadHeld t b found → GivesMessage found z held f → IsUnpackReply t b z held f
+given None b found z held f is gives = absurd is
+given (Some t) b found (pos used) held f is gives = unpacks t b found used held is gives
+given (Some t) b found (negsuc k) held f is gives =
+    let places : ℕ = length held.old.parts in
+    let room : ℕ = length held.old.values in
     let many : length found.parts.items ≡ length is.m.elements = ap length is.parts ∙ length_parts 0 is.m.elements in (
       gives.0,
       gives.1,
@@ -60,8 +61,8 @@ given_by : (r : Result (Contents × ℕ) UnpackFault) (places room : ℕ) (f : R
 given_by (Ok x) places room f h = absurd cc
 given_by (Err e) places room f h = h
 
-pub not_read : (t : Option Layout) (b : List ℕ) (message : RumpadolMessage) (parts : List RumpadolPart) (values : List ℕ) (f : RumpadolFault)
-    → IsReadFaultHeld t b f → IsUnpackReply t b (negsuc 0) message message parts parts values values f
-not_read (Some t) b message parts values f is =
-    (refl, record { message = refl; parts_kept = refl; values_kept = refl }, λ ne. given_by (message_at t b) (length parts) (length values) f (is ne))
-not_read None b message parts values f is = (refl, record { message = refl; parts_kept = refl; values_kept = refl }, is)
+pub not_read : (t : Option Layout) (b : List ℕ) (held : Holding) (f : RumpadolFault)
+    → IsReadFaultHeld t b f → IsUnpackReply t b (negsuc 0) (record { old = held; new = held }) f
+not_read (Some t) b held f is =
+    (refl, record { message = refl; parts_kept = refl; values_kept = refl }, λ ne. given_by (message_at t b) (length held.parts) (length held.values) f (is ne))
+not_read None b held f is = (refl, record { message = refl; parts_kept = refl; values_kept = refl }, is)

@@ -6,7 +6,7 @@ use Rattle.iso_table.specs.Layout.{Layout}
 use Rattle.iso_wire.specs.Elements.{value_in, has, IsAscending}
 use Rattle.iso_wire.specs.Contents.{Contents}
 use Rattle.iso_wire.specs.declared.fault.UnpackFault.{UnpackFault}
-use Rattle.iso_wire.specs.Viewing.{Viewed, Views, IsViewed, Wired}
+use Rattle.iso_wire.specs.Viewing.{ViewContents, Views, IsViewed, SpellsBodies}
 use Rattle.iso_c.specs.declared.fault.RumpadolFault.{RumpadolFault}
 use Rattle.iso_c.specs.FaultNumbers.{no_element}
 use Rattle.iso_c.specs.Viewing.{body_fault}
@@ -18,7 +18,7 @@ abbrev Rows : Type 0
 Rows = List (Option FieldSpec)
 
 -- the bodies ascend as the elements do
-pub wires_ascend : (rows : Rows) (low : ℕ) (es ws : Values) (b : List ℕ) → Wired rows es ws b → IsAscending low es → IsAscending low ws
+pub wires_ascend : (rows : Rows) (low : ℕ) (es ws : Values) (b : List ℕ) → SpellsBodies rows es ws b → IsAscending low es → IsAscending low ws
 wires_ascend rows low [] [] b wired asc = tt
 wires_ascend rows low [] (w ∷ ws) b wired asc = absurd wired
 wires_ascend rows low (e ∷ es) [] b wired asc = absurd wired
@@ -34,21 +34,21 @@ missing_by false n e w es ws h same rest none =
     ap (λ (u : Bool). is_some (cond u (Some e.1) (value_in es n))) no ∙ rest none
 
 -- an element without a body isn't there
-pub no_body : (rows : Rows) (n : ℕ) (es ws : Values) (b : List ℕ) → Wired rows es ws b → value_in ws n ≡ None → has es n ≡ false
+pub no_body : (rows : Rows) (n : ℕ) (es ws : Values) (b : List ℕ) → SpellsBodies rows es ws b → value_in ws n ≡ None → has es n ≡ false
 no_body rows n [] [] b wired none = refl
 no_body rows n [] (w ∷ ws) b wired none = absurd wired
 no_body rows n (e ∷ es) [] b wired none = absurd wired
 no_body rows n (e ∷ es) (w ∷ ws) b wired none =
     missing_by (eqb w.0 n) n e w es ws refl wired.3 (no_body rows n es ws wired.1 wired.6) none
 
-pub viewed_ascend : (t : Layout) (view : Viewed) (b : List ℕ) → IsViewed t view b → IsAscending 2 view.wires
+pub viewed_ascend : (t : Layout) (view : ViewContents) (b : List ℕ) → IsViewed t view b → IsAscending 2 view.wires
 viewed_ascend t view b is = wires_ascend t.rows 2 is.0.elements view.wires is.3.0.parts is.3.1 is.3.0.ascending
 
 abbrev missing_when : ℕ → Bool → Option RumpadolFault
 missing_when n u = cond u None (Some (no_element n))
 
 -- an element without a body is told to be missing
-pub body_missing : (t : Layout) (view : Viewed) (b : List ℕ) (n : ℕ) (r : Result (Contents × ℕ) UnpackFault) → Views t b (Ok view) r → value_in view.wires n ≡ None → body_fault n r ≡ Some (no_element n)
+pub body_missing : (t : Layout) (view : ViewContents) (b : List ℕ) (n : ℕ) (r : Result (Contents × ℕ) UnpackFault) → Views t b (Ok view) r → value_in view.wires n ≡ None → body_fault n r ≡ Some (no_element n)
 body_missing t view b n r views none =
     ap (body_fault n) views.2 ∙ ap (missing_when n) (no_body t.rows n views.0 view.wires (drop views.1 (take view.used b)) views.3 none)
 

@@ -3,29 +3,34 @@ use Rattle.std.specs.Prelude.{◌≡◌, ◌⊎◌, ℤ, pos, negsuc, ℕ, ◌<�
 use Rattle.iso_c.specs.declared.fault.RumpadolFault.{RumpadolFault}
 use Rattle.iso_c.specs.FaultNumbers.{short_room}
 
+-- the bytes of the caller's room before a call, and after it
+pub record Room : Type 0 where
+  pub old : List ℕ
+  pub new : List ℕ
+
 -- the room's first bytes, so many, have the property, and the others are as they were
-pub record Written (P : List ℕ → Type 0) (n : ℕ) (old new : List ℕ) : Type 0 where
-  pub fits : n ≤ length new
-  pub front : P (take n new)
-  pub behind : drop n new ≡ drop n old
+pub record Writes (P : List ℕ → Type 0) (n : ℕ) (room : Room) : Type 0 where
+  pub fits : n ≤ length room.new
+  pub front : P (take n room.new)
+  pub behind : drop n room.new ≡ drop n room.old
 
 -- the room is as it was, and the fault has the property, or tells how many bytes with the other one are wanted
-pub record Unwritten (P : List ℕ → Type 0) (Q : RumpadolFault → Type 0) (old new : List ℕ)
+pub record WritesNothing (P : List ℕ → Type 0) (Q : RumpadolFault → Type 0) (room : Room)
     (fault : RumpadolFault) : Type 0 where
-  pub untouched : new ≡ old
+  pub untouched : room.new ≡ room.old
   pub reason : Q fault
-      ⊎ ((b : List ℕ) × P b × (length old < length b) × (fault ≡ short_room (length b)))
+      ⊎ ((b : List ℕ) × P b × (length room.old < length b) × (fault ≡ short_room (length b)))
 
 -- a length and bytes with the one property, or -1 and a fault with the other
-abbrev pub Replies : (List ℕ → Type 0) → (RumpadolFault → Type 0) → ℤ → List ℕ → List ℕ
-    → RumpadolFault → Type 0
-Replies P Q (pos n) old new fault = Written P n old new
-Replies P Q (negsuc k) old new fault = (k ≡ 0) × Unwritten P Q old new fault
+abbrev pub Replies : (List ℕ → Type 0) → (RumpadolFault → Type 0) → ℤ → Room → RumpadolFault
+    → Type 0
+Replies P Q (pos n) room fault = Writes P n room
+Replies P Q (negsuc k) room fault = (k ≡ 0) × WritesNothing P Q room fault
 
 -- the reply to a result of that view
-abbrev pub RepliesTo : Result (List ℕ) RumpadolFault → ℤ → List ℕ → List ℕ → RumpadolFault → Type 0
-RepliesTo (Ok b) n old new fault = Replies (λ w. w ≡ b) (λ f. ⊥) n old new fault
-RepliesTo (Err e) n old new fault = Replies (λ w. ⊥) (λ f. f ≡ e) n old new fault
+abbrev pub RepliesTo : Result (List ℕ) RumpadolFault → ℤ → Room → RumpadolFault → Type 0
+RepliesTo (Ok b) n room fault = Replies (λ w. w ≡ b) (λ f. ⊥) n room fault
+RepliesTo (Err e) n room fault = Replies (λ w. ⊥) (λ f. f ≡ e) n room fault
 
 -- the fault is as it was, unless the answer is -1
 abbrev pub KeepsFault : ℤ → RumpadolFault → RumpadolFault → Type 0

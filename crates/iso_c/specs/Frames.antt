@@ -5,9 +5,8 @@ use Rattle.iso_wire.specs.declared.header.Header.TheVariants.{Binary2, Ascii4, B
 use Rattle.iso_wire.specs.declared.framing.FrameFault.TheVariants.{TooLong, BadDigits}
 use Rattle.iso_wire.specs.Framing.{largest, Frames, Begins, NeedsMore, is_bad_header}
 use Rattle.iso_c.specs.declared.fault.RumpadolFault.{RumpadolFault}
-use Rattle.iso_c.specs.declared.parts.RumpadolPart.{RumpadolPart}
 use Rattle.iso_c.specs.FaultNumbers.{no_memory, no_such_header, frame_fault}
-use Rattle.iso_c.specs.Parts.{bytes_in}
+use Rattle.iso_c.specs.Parts.{Part, bytes_in}
 
 -- 0 names two bytes, 1 four ASCII digits, 2 four BCD digits
 abbrev pub header_named : ℕ → Option Header
@@ -26,16 +25,15 @@ IsFrameFault (Some h) body f =
 IsFrameFault None body f = f ≡ no_such_header
 
 -- a frame of so many bytes begins the input, and its body is told; 0 where neither a frame nor a bad header does; else -1
-abbrev pub UnframedBy : Header → List ℕ → ℤ → RumpadolPart → RumpadolPart → RumpadolFault → Type 0
-UnframedBy h b (pos zero) old new f = NeedsMore h b × (new ≡ old)
-UnframedBy h b (pos (suc k)) old new f = Begins h b (bytes_in b new) (suc k)
-    × (new.start + new.length ≡ suc k) × (new.element ≡ 0)
-UnframedBy h b (negsuc k) old new f = (k ≡ 0) × (f ≡ frame_fault BadDigits)
-    × (is_bad_header h b ≡ true) × (new ≡ old)
+abbrev pub UnframesBy : Header → List ℕ → ℤ → Part → RumpadolFault → Type 0
+UnframesBy h b (pos zero) body f = NeedsMore h b × (body.new ≡ body.old)
+UnframesBy h b (pos (suc k)) body f = Begins h b (bytes_in b body.new) (suc k)
+    × (body.new.start + body.new.length ≡ suc k) × (body.new.element ≡ 0)
+UnframesBy h b (negsuc k) body f = (k ≡ 0) × (f ≡ frame_fault BadDigits)
+    × (is_bad_header h b ≡ true) × (body.new ≡ body.old)
 
 -- the same where the number names a header; where it names none, -1
-abbrev pub Unframed : Option Header → List ℕ → ℤ → RumpadolPart → RumpadolPart → RumpadolFault
-    → Type 0
-Unframed (Some h) b n old new f = UnframedBy h b n old new f
-Unframed None b (pos n) old new f = ⊥
-Unframed None b (negsuc k) old new f = (k ≡ 0) × (f ≡ no_such_header) × (new ≡ old)
+abbrev pub Unframes : Option Header → List ℕ → ℤ → Part → RumpadolFault → Type 0
+Unframes (Some h) b n body f = UnframesBy h b n body f
+Unframes None b (pos n) body f = ⊥
+Unframes None b (negsuc k) body f = (k ≡ 0) × (f ≡ no_such_header) × (body.new ≡ body.old)

@@ -6,6 +6,11 @@ use Rattle.iso_c.specs.declared.fault.RumpadolFault.{RumpadolFault}
 use Rattle.iso_c.specs.declared.parts.RumpadolPart.{RumpadolPart}
 use Rattle.iso_c.specs.FaultNumbers.{bad_part, bad_number}
 
+-- what the caller's part tells before a call, and after it
+pub record Part : Type 0 where
+  pub old : RumpadolPart
+  pub new : RumpadolPart
+
 -- the bytes that a part tells of
 abbrev pub bytes_in : List ℕ → RumpadolPart → List ℕ
 bytes_in b p = take p.length (drop p.start b)

@@ -6,11 +6,9 @@ use Rattle.iso_wire.specs.Contents.{Contents}
 use Rattle.iso_wire.specs.Reading.{message_at, whole}
 use Rattle.iso_wire.specs.Spelling.{BeginsWith}
 use Rattle.iso_c.specs.declared.fault.RumpadolFault.{RumpadolFault}
-use Rattle.iso_c.specs.declared.parts.RumpadolPart.{RumpadolPart}
-use Rattle.iso_c.specs.declared.parts.RumpadolMessage.{RumpadolMessage}
 use Rattle.iso_c.specs.declared.unpacking.SpreadMessage.{SpreadMessage}
 use Rattle.iso_c.specs.Parts.{parts_from, values_of}
-use Rattle.iso_c.specs.Unpacking.{RoomsKept, room_fault}
+use Rattle.iso_c.specs.Unpacking.{Holdings, KeepsRooms, room_fault}
 
 -- the message that the bytes begin with, with its values end to end and their parts
 pub record IsSpread (t : Layout) (b : List ℕ) (found : SpreadMessage) : Type 0 where
@@ -27,28 +25,25 @@ IsSpreadHeld (Some t) b found = IsSpread t b found
 IsSpreadHeld None b found = ⊥
 
 -- what was found is given where there is room, and what lies behind it stays
-pub record GivesSpread (found : SpreadMessage) (used : ℕ) (told : RumpadolMessage)
-    (parts_old parts : List RumpadolPart) (values_old values : List ℕ) : Type 0 where
+pub record GivesSpread (found : SpreadMessage) (used : ℕ) (held : Holdings) : Type 0 where
   pub used_is : used ≡ found.used
-  pub message : told ≡ record {
+  pub message : held.new.message ≡ record {
     mti = found.mti;
     parts = length found.parts.items;
     values = length found.values.items;
   }
-  pub few : length found.parts.items ≤ length parts
-  pub room : length found.values.items ≤ length values
-  pub parts_are : take (length found.parts.items) parts ≡ found.parts.items
-  pub values_are : take (length found.values.items) values ≡ found.values.items
-  pub parts_behind : drop (length found.parts.items) parts
-      ≡ drop (length found.parts.items) parts_old
-  pub values_behind : drop (length found.values.items) values
-      ≡ drop (length found.values.items) values_old
+  pub few : length found.parts.items ≤ length held.new.parts
+  pub room : length found.values.items ≤ length held.new.values
+  pub parts_are : take (length found.parts.items) held.new.parts ≡ found.parts.items
+  pub values_are : take (length found.values.items) held.new.values ≡ found.values.items
+  pub parts_behind : drop (length found.parts.items) held.new.parts
+      ≡ drop (length found.parts.items) held.old.parts
+  pub values_behind : drop (length found.values.items) held.new.values
+      ≡ drop (length found.values.items) held.old.values
 
 -- what was found is given; or -1, why there is no room for it, and all stays
-abbrev pub GivesMessage : SpreadMessage → ℤ → RumpadolMessage → RumpadolMessage → List RumpadolPart
-    → List RumpadolPart → List ℕ → List ℕ → RumpadolFault → Type 0
-GivesMessage found (pos used) old new parts_old parts values_old values f =
-    GivesSpread found used new parts_old parts values_old values
-GivesMessage found (negsuc k) old new parts_old parts values_old values f =
-    (k ≡ 0) × RoomsKept old new parts_old parts values_old values × (room_fault (length
-    found.parts.items) (length found.values.items) (length parts_old) (length values_old) ≡ Some f)
+abbrev pub GivesMessage : SpreadMessage → ℤ → Holdings → RumpadolFault → Type 0
+GivesMessage found (pos used) held f = GivesSpread found used held
+GivesMessage found (negsuc k) held f = (k ≡ 0) × KeepsRooms held
+    × (room_fault (length found.parts.items) (length found.values.items) (length held.old.parts)
+    (length held.old.values) ≡ Some f)

@@ -27,27 +27,38 @@ IsReadFaultHeld None b f = f ≡ empty_slot
 
 -- ---- what is given
 
+-- what the caller holds of a message: what is told of it, its parts, and the room of its values
+pub record Holding : Type 0 where
+  pub message : RumpadolMessage
+  pub parts : List RumpadolPart
+  pub values : List ℕ
+
+-- what the caller holds before a call, and after it
+pub record Holdings : Type 0 where
+  pub old : Holding
+  pub new : Holding
+
 -- the rooms begin with the parts and the values of the message, which is so many bytes, and what lies behind these stays
-pub record Unpacked (t : Layout) (b : List ℕ) (used : ℕ) (told : RumpadolMessage)
-    (parts_old parts : List RumpadolPart) (values_old values : List ℕ) : Type 0 where
+pub record Unpacks (t : Layout) (b : List ℕ) (used : ℕ) (held : Holdings) : Type 0 where
   pub m : Contents
   pub begins : BeginsWith t m used b
-  pub mti : told.mti ≡ m.mti
-  pub few : told.parts ≤ length parts
-  pub room : told.values ≤ length values
-  pub parts_are : take told.parts parts ≡ parts_from 0 m.elements
-  pub values_are : take told.values values ≡ values_of m.elements
-  pub parts_behind : drop told.parts parts ≡ drop told.parts parts_old
-  pub values_behind : drop told.values values ≡ drop told.values values_old
+  pub mti : held.new.message.mti ≡ m.mti
+  pub few : held.new.message.parts ≤ length held.new.parts
+  pub room : held.new.message.values ≤ length held.new.values
+  pub parts_are : take held.new.message.parts held.new.parts ≡ parts_from 0 m.elements
+  pub values_are : take held.new.message.values held.new.values ≡ values_of m.elements
+  pub parts_behind : drop held.new.message.parts held.new.parts
+      ≡ drop held.new.message.parts held.old.parts
+  pub values_behind : drop held.new.message.values held.new.values
+      ≡ drop held.new.message.values held.old.values
   -- each part tells where its element's value lies
-  pub lies : elements_in values (take told.parts parts) ≡ m.elements
+  pub lies : elements_in held.new.values (take held.new.message.parts held.new.parts) ≡ m.elements
 
 -- the rooms as they were
-pub record RoomsKept (old new : RumpadolMessage) (parts_old parts : List RumpadolPart)
-    (values_old values : List ℕ) : Type 0 where
-  pub message : new ≡ old
-  pub parts_kept : parts ≡ parts_old
-  pub values_kept : values ≡ values_old
+pub record KeepsRooms (held : Holdings) : Type 0 where
+  pub message : held.new.message ≡ held.old.message
+  pub parts_kept : held.new.parts ≡ held.old.parts
+  pub values_kept : held.new.values ≡ held.old.values
 
 -- why so many parts and bytes aren't given: more are wanted than there are places, or than there is room
 abbrev pub room_fault : ℕ → ℕ → ℕ → ℕ → Option RumpadolFault
@@ -68,17 +79,12 @@ IsGivenFault (Some t) b places room f = f ≢ no_memory
 IsGivenFault None b places room f = f ≡ empty_slot
 
 -- the rooms have the message under the table that a slot holds; under none there is none
-abbrev pub UnpackedHeld : Option Layout → List ℕ → ℕ → RumpadolMessage → List RumpadolPart
-    → List RumpadolPart → List ℕ → List ℕ → Type 0
-UnpackedHeld (Some t) b used told parts_old parts values_old values =
-    Unpacked t b used told parts_old parts values_old values
-UnpackedHeld None b used told parts_old parts values_old values = ⊥
+abbrev pub UnpacksHeld : Option Layout → List ℕ → ℕ → Holdings → Type 0
+UnpacksHeld (Some t) b used held = Unpacks t b used held
+UnpacksHeld None b used held = ⊥
 
 -- how many bytes the message takes, or -1 and the first fault
-abbrev pub IsUnpackReply : Option Layout → List ℕ → ℤ → RumpadolMessage → RumpadolMessage
-    → List RumpadolPart → List RumpadolPart → List ℕ → List ℕ → RumpadolFault → Type 0
-IsUnpackReply t b (pos used) old new parts_old parts values_old values f =
-    UnpackedHeld t b used new parts_old parts values_old values
-IsUnpackReply t b (negsuc k) old new parts_old parts values_old values f =
-    (k ≡ 0) × RoomsKept old new parts_old parts values_old values
-    × IsGivenFault t b (length parts_old) (length values_old) f
+abbrev pub IsUnpackReply : Option Layout → List ℕ → ℤ → Holdings → RumpadolFault → Type 0
+IsUnpackReply t b (pos used) held f = UnpacksHeld t b used held
+IsUnpackReply t b (negsuc k) held f = (k ≡ 0) × KeepsRooms held
+    × IsGivenFault t b (length held.old.parts) (length held.old.values) f

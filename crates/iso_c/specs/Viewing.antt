@@ -5,16 +5,16 @@ use Rattle.iso_wire.specs.declared.fault.UnpackFault.{UnpackFault}
 use Rattle.iso_wire.specs.Contents.{Contents}
 use Rattle.iso_wire.specs.Elements.{has, value_in}
 use Rattle.iso_wire.specs.Reading.{message_at}
-use Rattle.iso_wire.specs.Viewing.{Viewed, IsViewed}
+use Rattle.iso_wire.specs.Viewing.{ViewContents, IsViewed}
 use Rattle.iso_c.specs.declared.fault.RumpadolFault.{RumpadolFault}
 use Rattle.iso_c.specs.declared.parts.RumpadolPart.{RumpadolPart}
 use Rattle.iso_c.specs.FaultNumbers.{empty_slot, no_element, unpack_fault}
-use Rattle.iso_c.specs.Parts.{bytes_in}
+use Rattle.iso_c.specs.Parts.{Part, bytes_in}
 
 -- the body of element n of the message that the bytes begin with lies there, and begins there
 abbrev pub IsBodyAt : Layout → List ℕ → ℕ → RumpadolPart → Type 0
 IsBodyAt t b n p =
-    (v : Viewed) × IsViewed t v b × (p.element ≡ n) × (p.start + p.length ≤ v.used)
+    (v : ViewContents) × IsViewed t v b × (p.element ≡ n) × (p.start + p.length ≤ v.used)
     × (value_in v.wires n ≡ Some (bytes_in b p)) × (length (bytes_in b p) ≡ p.length)
     × (value_in v.starts n ≡ Some p.start)
 
@@ -37,8 +37,8 @@ abbrev pub IsViewFaultHeld : Option Layout → List ℕ → ℕ → RumpadolFaul
 IsViewFaultHeld (Some t) b n f = IsViewFault t b n f
 IsViewFaultHeld None b n f = f ≡ empty_slot
 
--- the length of the body, and where it lies; or -1 and the fault
-abbrev pub ViewsBody : Option Layout → List ℕ → ℕ → ℤ → RumpadolPart → RumpadolPart → RumpadolFault
-    → Type 0
-ViewsBody t b n (pos size) old new f = IsBodyAtHeld t b n new × (size ≡ new.length)
-ViewsBody t b n (negsuc k) old new f = (k ≡ 0) × (new ≡ old) × IsViewFaultHeld t b n f
+-- the length of a body, and a part with the one property; or -1, the part as it was, and a fault with the other
+abbrev pub RepliesPart : (RumpadolPart → Type 0) → (RumpadolFault → Type 0) → ℤ → Part
+    → RumpadolFault → Type 0
+RepliesPart P Q (pos size) body f = P body.new × (size ≡ body.new.length)
+RepliesPart P Q (negsuc k) body f = (k ≡ 0) × (body.new ≡ body.old) × Q f

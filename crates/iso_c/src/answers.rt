@@ -30,7 +30,8 @@ pub(crate) fn length_of(front: usize, bytes: &[u8]) -> i64
 
 /// Copies the bytes to the front of the room, and answers how many they are; -1 where the room is short.
 pub(crate) fn answer_bytes(bytes: &[u8], room: &mut [u8], fault: &mut RumpadolFault) -> i64
-    ensures reply { RepliesTo (Ok bytes.now) result room.old room.new fault.new }
+    ensures reply { RepliesTo (Ok bytes.now) result
+        (record { old = room.old; new = room.new }) fault.new }
     ensures kept { KeepsFault result fault.old fault.new }
 {
     if room.len() < bytes.len() {
@@ -47,7 +48,8 @@ pub(crate) fn answer(
     room: &mut [u8],
     fault: &mut RumpadolFault,
 ) -> i64
-    ensures reply { RepliesTo (bytes_of made) result room.old room.new fault.new }
+    ensures reply { RepliesTo (bytes_of made) result
+        (record { old = room.old; new = room.new }) fault.new }
     ensures kept { KeepsFault result fault.old fault.new }
 {
     match made {

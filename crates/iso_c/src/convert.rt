@@ -59,8 +59,8 @@ pub extern "C" fn rumpadol_convert(
     // The room begins with the message as the second table spells it plainly, and the answer is its
     // length; or -1, an untouched room, and the first fault, memory aside, or how much is wanted.
     ensures reply { Replies (ConvertsHeld from.old.value to.old.value bytes.now)
-        (IsConvertFaultHeld from.old.value to.old.value bytes.now) result out.old out.new
-        fault.new }
+        (IsConvertFaultHeld from.old.value to.old.value bytes.now) result
+        (record { old = out.old; new = out.new }) fault.new }
     // The first slot keeps its table.
     ensures from { from.new.value ≡ from.old.value }
     // Where the answer isn't -1, the fault is as it was.

@@ -55,7 +55,8 @@ pub extern "C" fn rumpadol_describe(
     // The room begins with the message's lines, sensitive values masked, and the answer is their
     // length; or -1, an untouched room, and the first fault, memory aside, or how much is wanted.
     ensures reply { Replies (DescribesHeld slot.old.value bytes.now)
-        (IsReadFaultHeld slot.old.value bytes.now) result out.old out.new fault.new }
+        (IsReadFaultHeld slot.old.value bytes.now) result
+        (record { old = out.old; new = out.new }) fault.new }
     // Where the answer isn't -1, the fault is as it was.
     ensures kept { KeepsFault result fault.old fault.new }
     // The slot keeps its table.

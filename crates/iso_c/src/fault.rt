@@ -8,7 +8,7 @@ ghost use Rattle.iso_c.specs.FaultNumbers.{only, at_element, at_offset, no_memor
 use iso_parts::FieldFault;
 use iso_table::{NoMemory, TableFault};
 use iso_wire::{FrameFault, PackFault, SetFault, UnpackCause, UnpackFault};
-use std::alloc::{AllocError, AllocFailed};
+use std::alloc::AllocError;
 
 /// Memory ran out.
 pub(crate) const MEMORY: u32 = 1;
@@ -139,14 +139,6 @@ impl From<AllocError> for RumpadolFault {
     ghost from_gives = { λ _ e. e ≡ no_memory };
 
     fn from(_e: AllocError) -> RumpadolFault {
-        RumpadolFault::only(MEMORY)
-    }
-}
-
-impl<T: Drop> From<AllocFailed<T>> for RumpadolFault {
-    ghost from_gives = { λ _ e. e ≡ no_memory };
-
-    fn from(_e: AllocFailed<T>) -> RumpadolFault {
         RumpadolFault::only(MEMORY)
     }
 }

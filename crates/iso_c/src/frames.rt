@@ -2,7 +2,7 @@
 
 ghost use Rattle.std.specs.Prelude.{◌≡◌, IfOk, IfErr};
 ghost use Rattle.iso_c.specs.Answers.{Replies, KeepsFault};
-ghost use Rattle.iso_c.specs.Frames.{header_named, FramesBy, IsFrameFault, Unframed};
+ghost use Rattle.iso_c.specs.Frames.{header_named, FramesBy, IsFrameFault, Unframes};
 
 use crate::answers::{answer, length_of, refuse};
 use crate::fault::{NO_SUCH_HEADER, RumpadolFault};
@@ -45,7 +45,8 @@ pub extern "C" fn rumpadol_frame(
     // The room begins with the body's frame, and the answer is its length; or -1, an untouched
     // room, and why: no such header, a body that it can't count, want of memory, or a short room.
     ensures reply { Replies (FramesBy (header_named header) body.now)
-        (IsFrameFault (header_named header) body.now) result out.old out.new fault.new }
+        (IsFrameFault (header_named header) body.now) result
+        (record { old = out.old; new = out.new }) fault.new }
     // Where the answer isn't -1, the fault is as it was.
     ensures kept { KeepsFault result fault.old fault.new }
 {
@@ -63,7 +64,8 @@ pub extern "C" fn rumpadol_unframe(
 ) -> i64
     // The length of the frame that the input begins with, and where its body lies; 0 where it
     // begins with none and no bad header; or -1 for a bad header, or a number that no header has.
-    ensures reply { Unframed (header_named header) input.now result body.old body.new fault.new }
+    ensures reply { Unframes (header_named header) input.now result
+        (record { old = body.old; new = body.new }) fault.new }
     // Where the answer isn't -1, the fault is as it was.
     ensures kept { KeepsFault result fault.old fault.new }
 {

@@ -128,7 +128,8 @@ fn name_of(number: u32) -> &'static str
 pub extern "C" fn rumpadol_fault_name(number: u32, out: &mut [u8], fault: &mut RumpadolFault) -> i64
     // The room begins with the fault's name, and the answer is its length, 0 where no fault has the
     // number; or -1, an untouched room, and how much is wanted.
-    ensures reply { RepliesTo (Ok (name_of number)) result out.old out.new fault.new }
+    ensures reply { RepliesTo (Ok (name_of number)) result
+        (record { old = out.old; new = out.new }) fault.new }
     // Where the answer isn't -1, the fault is as it was.
     ensures kept { KeepsFault result fault.old fault.new }
 {

@@ -149,7 +149,7 @@ pub extern "C" fn rumpadol_pack(
     // length; or -1, an untouched room, and the first fault, memory aside, or how much is wanted.
     ensures reply { Replies (PacksHeld slot.old.value (message_of mti parts.now values.now))
         (IsPackingFaultHeld slot.old.value (message_of mti parts.now values.now)) result
-        out.old out.new fault.new }
+        (record { old = out.old; new = out.new }) fault.new }
     // Where the answer isn't -1, the fault is as it was.
     ensures kept { KeepsFault result fault.old fault.new }
     // The slot keeps its table.

@@ -105,8 +105,10 @@ fn give_message(
     fault: &mut RumpadolFault,
 ) -> i64
     requires { found.now.used ≤ length bytes.now }
-    ensures reply { GivesMessage found.now result message.old message.new parts.old parts.new
-        values.old values.new fault.new }
+    ensures reply { GivesMessage found.now result (record {
+      old = record { message = message.old; parts = parts.old; values = values.old };
+      new = record { message = message.new; parts = parts.new; values = values.new };
+    }) fault.new }
     ensures kept { KeepsFault result fault.old fault.new }
 {
     if parts.len() < found.parts.len() {
@@ -147,8 +149,10 @@ pub extern "C" fn rumpadol_unpack(
 ) -> i64
     // The rooms get the message's type, its values end to end and where each lies, the answer is
     // its length; or -1, untouched rooms, and the first fault, memory aside, or how much is wanted.
-    ensures reply { IsUnpackReply slot.old.value bytes.now result message.old message.new
-        parts.old parts.new values.old values.new fault.new }
+    ensures reply { IsUnpackReply slot.old.value bytes.now result (record {
+      old = record { message = message.old; parts = parts.old; values = values.old };
+      new = record { message = message.new; parts = parts.new; values = values.new };
+    }) fault.new }
     // Where the answer isn't -1, the fault is as it was.
     ensures kept { KeepsFault result fault.old fault.new }
     // The slot keeps its table.

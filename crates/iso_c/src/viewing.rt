@@ -2,7 +2,7 @@
 
 ghost use Rattle.std.specs.Prelude.{◌≡◌, IfOk, IfErr};
 ghost use Rattle.iso_c.specs.Answers.{KeepsFault};
-ghost use Rattle.iso_c.specs.Viewing.{IsBodyAt, IsViewFault, IsBodyAtHeld, IsViewFaultHeld, ViewsBody};
+ghost use Rattle.iso_c.specs.Viewing.{IsBodyAt, IsViewFault, IsBodyAtHeld, IsViewFaultHeld, RepliesPart};
 
 use crate::answers::{length_of, refuse};
 use crate::fault::{EMPTY_SLOT, NO_ELEMENT, RumpadolFault};
@@ -70,7 +70,9 @@ pub extern "C" fn rumpadol_view(
 ) -> i64
     // The length of the element's body, and where it begins in the bytes; or -1, an untouched part,
     // and why: an empty slot, `view`'s fault, or `NoElement` where the message lacks it.
-    ensures reply { ViewsBody slot.old.value bytes.now element result body.old body.new fault.new }
+    ensures reply { RepliesPart (IsBodyAtHeld slot.old.value bytes.now element)
+        (IsViewFaultHeld slot.old.value bytes.now element) result
+        (record { old = body.old; new = body.new }) fault.new }
     // Where the answer isn't -1, the fault is as it was.
     ensures kept { KeepsFault result fault.old fault.new }
     // The slot keeps its table.

@@ -9,28 +9,28 @@ use Rattle.std.specs.declared.option.Option.{Option}
 use Rattle.std.specs.Io.KnownBytes.{Appends}
 use Rattle.iso_table.specs.Layout.{Layout}
 use Rattle.iso_issuer.specs.Books.{Books}
-use Rattle.iso_wire.specs.declared.header.Header.{Header}
-use Rattle.iso_host.specs.Serving.{Leaves}
+use Rattle.iso_host.specs.Links.{Agreed}
+use Rattle.iso_host.specs.Serving.{Leaves, Standing}
 use Rattle.iso_host.specs.Entering.{books_after_bodies, BodiesGoOn, StaysWithout}
 use Rattle.iso_host.specs.declared.fault.Report.{Report}
 use Rattle.iso_host.specs.declared.fault.ServeFault.{ServeFault}
 use Rattle.iso_host.specs.declared.fault.ServeFault.TheVariants.{Read, Write, BadHeader, CutFrame, Memory, TooManyTurns}
-use Rattle.iso_cli.specs.Connections.{AllTold, Connection, CountsBodies, OneJournal, Serves, fault_line, output_line}
-use Rattle.iso_cli.specs.OneConnection.{EndTold, IsConnection, TellsConnectionEnd}
+use Rattle.iso_cli.specs.Connections.{Connection, CountsBodies, Lines, OneJournal, Port, Serves, TellsAll, fault_line, output_line}
+use Rattle.iso_cli.specs.OneConnection.{IsConnection, TellsConnectionEnd, TellsEnd}
 
 -- ---- so far
 
 -- so many connections were served and told
-pub record ServedSoFar (t : Layout) (old new : Books) (served : ℕ) (held written heard told : Option (List ℕ)) : Type 0 where
+pub record SoFar (t : Layout) (before now : Port) (served : ℕ) : Type 0 where
   pub connections : List Connection
-  pub one_journal : OneJournal t old new served connections
-  pub all_told : AllTold held written heard told served connections
+  pub one_journal : OneJournal t before.books now.books served connections
+  pub tells_all : TellsAll before.told now.told served connections
 
-pub so_far_none : (t : Layout) (old : Books) (held heard : Option (List ℕ)) → StaysWithout old → ServedSoFar t old old 0 held held heard heard
-so_far_none t old held heard stays = record {
+pub so_far_none : (t : Layout) (before : Port) → StaysWithout before.books → SoFar t before before 0
+so_far_none t before stays = record {
   connections = [];
   one_journal = record { few = omega arith; journal = sym (stays t); counted = All-nil _ };
-  all_told = record { every = refl; output = Appends-nil held; faults = Appends-nil heard; memory = All-nil _ };
+  tells_all = record { every = refl; output = Appends-nil before.told.output; faults = Appends-nil before.told.faults; memory = All-nil _ };
 }
 
 -- one connection more, on the journal that those before it left
@@ -52,60 +52,54 @@ lines_more line held written new connections c before here =
     subst (Appends held new) (ap (λ (l : List ℕ). flat_map line connections ++ l) (sym (append-nil (line c))) ∙ sym (flat_map-append line connections (c ∷ [])))
     (Appends-trans held written new (flat_map line connections) (line c) before here)
 
-pub so_far_more : BodiesGoOn → (t : Layout) (old mid new : Books) (served : ℕ) (held written later heard told then_told : Option (List ℕ)) (ended : Result Report ServeFault)
-    → ServedSoFar t old mid served held written heard told → IsConnection t mid new ended → EndTold written later told then_told ended
-    → ServedSoFar t old new (served + 1) held later heard then_told
-so_far_more go_on t old mid new served held written later heard told then_told ended so_far next end = record {
-  connections = so_far.connections ++ record { bodies = next.bodies; ended = ended } ∷ [];
-  one_journal = one_more go_on t old mid new served (served + 1) so_far.connections ended so_far.one_journal (omega arith) next;
-  all_told = record {
-    every = length-append so_far.connections (record { bodies = next.bodies; ended = ended } ∷ []) ∙ ap (λ n. n + 1) so_far.all_told.every;
-    output = lines_more (λ c. output_line c.ended) held written later so_far.connections (record { bodies = next.bodies; ended = ended }) so_far.all_told.output end.output;
-    faults = lines_more (λ c. fault_line c.ended) heard told then_told so_far.connections (record { bodies = next.bodies; ended = ended }) so_far.all_told.faults end.faults;
-    memory = All-push (λ c. c.ended ≢ Err Memory) so_far.connections (record { bodies = next.bodies; ended = ended }) so_far.all_told.memory end.memory;
+pub so_far_more : BodiesGoOn → (t : Layout) (before now next : Port) (served : ℕ) (ended : Result Report ServeFault)
+    → SoFar t before now served → IsConnection t now.books next.books ended → TellsEnd now.told next.told ended → SoFar t before next (served + 1)
+so_far_more go_on t before now next served ended so_far connection end = record {
+  connections = so_far.connections ++ record { bodies = connection.bodies; ended = ended } ∷ [];
+  one_journal = one_more go_on t before.books now.books next.books served (served + 1) so_far.connections ended so_far.one_journal (omega arith) connection;
+  tells_all = record {
+    every = length-append so_far.connections (record { bodies = connection.bodies; ended = ended } ∷ []) ∙ ap (λ n. n + 1) so_far.tells_all.every;
+    output = lines_more (λ c. output_line c.ended) before.told.output now.told.output next.told.output so_far.connections (record { bodies = connection.bodies; ended = ended }) so_far.tells_all.output end.output;
+    faults = lines_more (λ c. fault_line c.ended) before.told.faults now.told.faults next.told.faults so_far.connections (record { bodies = connection.bodies; ended = ended }) so_far.tells_all.faults end.faults;
+    memory = All-push (λ c. c.ended ≢ Err Memory) so_far.connections (record { bodies = connection.bodies; ended = ended }) so_far.tells_all.memory end.memory;
   };
 }
 
 -- what was told of an end, where the next connection is served
-pub told_on : (held written heard told : Option (List ℕ)) (ended : Result Report ServeFault) (status : ℕ) → TellsConnectionEnd held written heard told ended status
-    → status ≡ 0 → EndTold held written heard told ended
-told_on held written heard told ended status (inl end) none = end.1
-told_on held written heard told ended status (inr failed) none = absurd (omega (arith, failed, none))
+pub told_on : (before after : Lines) (ended : Result Report ServeFault) (status : ℕ) → TellsConnectionEnd before after ended status → status ≡ 0 → TellsEnd before after ended
+told_on before after ended status (inl end) none = end.1
+told_on before after ended status (inr failed) none = absurd (omega (arith, failed, none))
 
 -- and where it isn't
-pub told_off : (held written heard told : Option (List ℕ)) (ended : Result Report ServeFault) (status : ℕ) → TellsConnectionEnd held written heard told ended status
-    → (status ≡ 0 → ⊥) → status ≡ 3
-told_off held written heard told ended status (inl end) some = absurd (some end.0)
-told_off held written heard told ended status (inr failed) some = failed
+pub told_off : (before after : Lines) (ended : Result Report ServeFault) (status : ℕ) → TellsConnectionEnd before after ended status → (status ≡ 0 → ⊥) → status ≡ 3
+told_off before after ended status (inl end) some = absurd (some end.0)
+told_off before after ended status (inr failed) some = failed
 
 -- ---- at the end
 
 -- all were served and told
-pub serves_all : (t : Layout) (old new : Books) (count served : ℕ) (held written heard told : Option (List ℕ)) → served ≡ count
-    → ServedSoFar t old new served held written heard told → Serves t old new count held written heard told 0
-serves_all t old new count served held written heard told same so_far =
-    let going = subst (λ (n : ℕ). ServedSoFar t old new n held written heard told) same so_far in
-    record { connections = going.connections; one_journal = going.one_journal; outcome = inl (refl, going.all_told) }
+pub serves_all : (t : Layout) (before after : Port) (count served : ℕ) → served ≡ count → SoFar t before after served → Serves t before after count 0
+serves_all t before after count served same so_far =
+    let going = subst (λ (n : ℕ). SoFar t before after n) same so_far in
+    record { connections = going.connections; one_journal = going.one_journal; outcome = inl (refl, going.tells_all) }
 
 -- the last one was served, and not told
-pub serves_some : BodiesGoOn → (t : Layout) (old mid new : Books) (count served : ℕ) (held written later heard told then_told : Option (List ℕ)) (ended : Result Report ServeFault) (status : ℕ)
-    → ServedSoFar t old mid served held written heard told → served < count → IsConnection t mid new ended → status ≡ 3
-    → Serves t old new count held later heard then_told status
-serves_some go_on t old mid new count served held written later heard told then_told ended status so_far room next failed = record {
+pub serves_some : BodiesGoOn → (t : Layout) (before now after : Port) (count served : ℕ) (ended : Result Report ServeFault) (status : ℕ)
+    → SoFar t before now served → served < count → IsConnection t now.books after.books ended → status ≡ 3 → Serves t before after count status
+serves_some go_on t before now after count served ended status so_far room next failed = record {
   connections = so_far.connections ++ record { bodies = next.bodies; ended = ended } ∷ [];
-  one_journal = one_more go_on t old mid new served count so_far.connections ended so_far.one_journal room next;
+  one_journal = one_more go_on t before.books now.books after.books served count so_far.connections ended so_far.one_journal room next;
   outcome = inr failed;
 }
 
 -- ---- one connection
 
 -- a stream that was served is a connection
-pub is_connection : (t : Layout) (h : Header) (unread left held written : Option (List ℕ)) (old new : Books) (ended : Result Report ServeFault)
-    → Leaves t h unread left held written old new ended → IsConnection t old new ended
-is_connection t h unread left held written old new (Ok report) o = record { bodies = o.0; journal = o.2.books; counted = o.4.2 }
-is_connection t h unread left held written old new (Err Read) o = record { bodies = o.0; journal = o.2.books; counted = tt }
-is_connection t h unread left held written old new (Err BadHeader) o = record { bodies = o.0; journal = o.2.books; counted = tt }
-is_connection t h unread left held written old new (Err CutFrame) o = record { bodies = o.0; journal = o.2.books; counted = tt }
-is_connection t h unread left held written old new (Err Write) o = record { bodies = o.0; journal = o.3.books; counted = tt }
-is_connection t h unread left held written old new (Err Memory) o = record { bodies = o.0; journal = o.3.books; counted = tt }
-is_connection t h unread left held written old new (Err TooManyTurns) o = record { bodies = o.0; journal = o.3.books; counted = tt }
+pub is_connection : (l : Agreed) (before after : Standing) (ended : Result Report ServeFault) → Leaves l before after ended → IsConnection l.table before.books after.books ended
+is_connection l before after (Ok report) o = record { bodies = o.0; journal = o.2.books; counted = o.4.2 }
+is_connection l before after (Err Read) o = record { bodies = o.0; journal = o.2.books; counted = tt }
+is_connection l before after (Err BadHeader) o = record { bodies = o.0; journal = o.2.books; counted = tt }
+is_connection l before after (Err CutFrame) o = record { bodies = o.0; journal = o.2.books; counted = tt }
+is_connection l before after (Err Write) o = record { bodies = o.0; journal = o.2.books; counted = tt }
+is_connection l before after (Err Memory) o = record { bodies = o.0; journal = o.2.books; counted = tt }
+is_connection l before after (Err TooManyTurns) o = record { bodies = o.0; journal = o.2.books; counted = tt }

@@ -3,21 +3,22 @@ use Rattle.std.proofs.Common.{◌≡◌, inl, inr, ℕ, Bool, true, false, IsTru
 use Rattle.std.specs.Borrow.{Bor}
 use Rattle.std.specs.Io.KnownBytes.{Appends}
 use Rattle.std.specs.Prelude.{codes}
-use Rattle.iso_host.specs.Counts.{Counts}
-use Rattle.iso_host.specs.Serving.{TookTurns}
+use Rattle.iso_host.specs.Counts.{Usage}
+use Rattle.iso_host.specs.Serving.{UsesAllTurns}
 use Rattle.iso_host.specs.declared.fault.Report.{Report}
 use Rattle.iso_wire.specs.declared.header.Header.{Header}
 use Rattle.iso_wire.specs.declared.header.Header.TheVariants.{Binary2, Ascii4, Bcd2}
-use Rattle.iso_cli.specs.Check.{ChecksAsked, ChecksOver}
+use Rattle.iso_cli.specs.AtHand.{AtHand}
+use Rattle.iso_cli.specs.Check.{ChecksIfAsked, ChecksOnStreams}
 use Rattle.iso_cli.specs.Connections.{report_text}
-use Rattle.iso_cli.specs.Convert.{ConvertsAsked, ConvertsOver}
-use Rattle.iso_cli.specs.Echo.{EchoesOver}
-use Rattle.iso_cli.specs.Jobs.{DoesJob, DoesAsked, Performs, StopsJob, StopsAsked}
+use Rattle.iso_cli.specs.Convert.{ConvertsIfAsked, ConvertsOnStreams}
+use Rattle.iso_cli.specs.Echo.{EchoesOnStreams}
+use Rattle.iso_cli.specs.Jobs.{DoesJob, DoesAskedJob, Performs, StopsJob, StopsAskedJob}
 use Rattle.iso_cli.specs.Refused.{ConvertStops, EchoStops, IsRefused, NamesNone, ShowStops}
-use Rattle.iso_cli.specs.Run.{RunsAsked, RunsOver}
-use Rattle.iso_cli.specs.Show.{ShowsAsked, ShowsOver}
+use Rattle.iso_cli.specs.Run.{RunsIfAsked, RunsOnStreams}
+use Rattle.iso_cli.specs.Show.{ShowsIfAsked, ShowsOnStreams}
 use Rattle.iso_cli.specs.Stop.{line_of, status_of, stop_of_words}
-use Rattle.iso_cli.specs.Turns.{RunTookTurns, most_turns}
+use Rattle.iso_cli.specs.Turns.{RunUsesAllTurns, most_turns}
 use Rattle.iso_cli.specs.Words.{Asks, AsksNothing, AsksShow, header_name, is_name}
 use Rattle.iso_cli.specs.declared.stop.Stop.{Stop}
 use Rattle.iso_cli.specs.declared.stop.Stop.TheVariants.{TooManyTurns, Words}
@@ -30,42 +31,40 @@ use Rattle.iso_cli.proofs.RefusedLemmas.{same_convert, same_show, words_stop}
 -- ---- by a job that the words ask
 
 -- what such a job does
-pub done : (words : List (List ℕ)) (file : List ℕ → Option (List ℕ)) (input old new : Option (List ℕ)) (report : Option Report) (found job : Job)
-    → Asks words found → found ≡ job → DoesJob job file input old new report → DoesAsked words file input old new report
-done words file input old new report found job asks is does = record { job = job; asked = subst (λ (j : Job). Asks words j) is asks; does = does }
+pub done : (words : List (List ℕ)) (w : AtHand) (report : Option Report) (found job : Job) → Asks words found → found ≡ job → DoesJob job w report → DoesAskedJob words w report
+done words w report found job asks is does = record { job = job; asked = subst (λ (j : Job). Asks words j) is asks; does = does }
 
 -- all turns of a host on a stream were taken
-pub took_turns : (words : List (List ℕ)) (found : Job) (table accounts : Bor (List ℕ)) (header : Header) (input_old input_new output_old output_new : Counts)
-    → Asks words found → found ≡ Run table accounts header → TookTurns input_old input_new output_old output_new most_turns
-    → RunTookTurns words input_old input_new output_old output_new
-took_turns words found table accounts header input_old input_new output_old output_new asks is took =
+pub uses_all : (words : List (List ℕ)) (found : Job) (table accounts : Bor (List ℕ)) (header : Header) (before after : Usage)
+    → Asks words found → found ≡ Run table accounts header → UsesAllTurns before after most_turns → RunUsesAllTurns words before after
+uses_all words found table accounts header before after asks is uses =
     let asked = subst (λ (j : Job). Asks words j) is asks in
-    (table.now, accounts.now, header, asked.2, took)
+    (table.now, accounts.now, header, asked.2, uses)
 
-module _ (words : List (List ℕ)) (file : List ℕ → Option (List ℕ)) (input old new : Option (List ℕ)) (input_old input_new output_old output_new : Counts) where
+module _ (words : List (List ℕ)) (w : AtHand) (before after : Usage) where
   -- and what stops it, which isn't that the words ask nothing
   pub stopped : (r : Result (Option Report) Stop) (stop : Stop) (found job : Job) → (x : Stop) × (r ≡ Err x) × (x ≡ stop) → Asks words found → found ≡ job
-      → (stop ≡ Words → ⊥) → (status_of stop ≡ 1 → StopsJob job file input stop) → (stop ≡ TooManyTurns → RunTookTurns words input_old input_new output_old output_new)
-      → Performs words file input old new input_old input_new output_old output_new r
+      → (stop ≡ Words → ⊥) → (status_of stop ≡ 1 → StopsJob job w.file w.input stop) → (stop ≡ TooManyTurns → RunUsesAllTurns words before after)
+      → Performs words w before after r
   stopped r stop found job (x, err, same) asks is other stops turns =
-      subst (λ (y : Result (Option Report) Stop). Performs words file input old new input_old input_new output_old output_new y) (sym (err ∙ ap Err same)) record {
-        nothing = λ w. absurd (other w);
+      subst (λ (y : Result (Option Report) Stop). Performs words w before after y) (sym (err ∙ ap Err same)) record {
+        nothing = λ e. absurd (other e);
         refused = λ one. record { job = job; asked = subst (λ (j : Job). Asks words j) is asks; stops = stops one };
         turns = turns;
       }
 
   -- no job is stopped where the words are refused
   pub unasked : (r : Result (Option Report) Stop) (fault : WordsFault) → (x : Stop) × (r ≡ Err x) × (x ≡ stop_of_words fault)
-      → (fault ≡ fault_of.Refused → AsksNothing words) → Performs words file input old new input_old input_new output_old output_new r
+      → (fault ≡ fault_of.Refused → AsksNothing words) → Performs words w before after r
   unasked r fault_of.Refused (x, err, same) none =
-      subst (λ (y : Result (Option Report) Stop). Performs words file input old new input_old input_new output_old output_new y) (sym (err ∙ ap Err same)) record {
-        nothing = λ w. none refl;
+      subst (λ (y : Result (Option Report) Stop). Performs words w before after y) (sym (err ∙ ap Err same)) record {
+        nothing = λ e. none refl;
         refused = λ one. absurd (words_stop fault_of.Refused x same (ap status_of same ∙ one));
         turns = λ is. cc;
       }
   unasked r fault_of.Memory (x, err, same) none =
-      subst (λ (y : Result (Option Report) Stop). Performs words file input old new input_old input_new output_old output_new y) (sym (err ∙ ap Err same)) record {
-        nothing = λ w. cc;
+      subst (λ (y : Result (Option Report) Stop). Performs words w before after y) (sym (err ∙ ap Err same)) record {
+        nothing = λ e. cc;
         refused = λ one. absurd (words_stop fault_of.Memory x same (ap status_of same ∙ one));
         turns = λ is. cc;
       }
@@ -160,31 +159,31 @@ module _ (words : List (List ℕ)) (P : Job → Type 0) where
   by_show Q f t true name (inr is) (Run table accounts header) asks p = cc (asks.2)
 
 -- so what was done is what they ask
-module _ (words : List (List ℕ)) (file : List ℕ → Option (List ℕ)) (input old new : Option (List ℕ)) (report : Option Report) (d : DoesAsked words file input old new report) where
-  pub echoes : words ≡ [] → EchoesOver input old new
-  echoes none = by_none words (λ j. DoesJob j file input old new report) (EchoesOver input old new) (λ p. p) none d.job d.asked d.does
+module _ (words : List (List ℕ)) (w : AtHand) (report : Option Report) (d : DoesAskedJob words w report) where
+  pub echoes : words ≡ [] → EchoesOnStreams w.input w.before w.after
+  echoes none = by_none words (λ j. DoesJob j w report) (EchoesOnStreams w.input w.before w.after) (λ p. p) none d.job d.asked d.does
 
-  pub checks : ChecksAsked words file old new
-  checks = λ t named is. by_check words (λ j. DoesJob j file input old new report) (λ t. ChecksOver file t old new) (λ table p. p) t is d.job d.asked d.does
+  pub checks : ChecksIfAsked words w.file w.before w.after
+  checks = λ t named is. by_check words (λ j. DoesJob j w report) (λ t. ChecksOnStreams w.file t w.before w.after) (λ table p. p) t is d.job d.asked d.does
 
-  pub shows : ShowsAsked words file input old new
-  shows = λ t b named is. by_show words (λ j. DoesJob j file input old new report) (λ t b. ShowsOver file t b input old new) (λ table clear p. p) t b named is d.job d.asked d.does
+  pub shows : ShowsIfAsked words w.file w.input w.before w.after
+  shows = λ t b named is. by_show words (λ j. DoesJob j w report) (λ t b. ShowsOnStreams w t b) (λ table clear p. p) t b named is d.job d.asked d.does
 
-  pub converts : ConvertsAsked words file input old new
-  converts = λ a b is. by_convert words (λ j. DoesJob j file input old new report) (λ a b. ConvertsOver file a b input old new) (λ from to p. p) a b is d.job d.asked d.does
+  pub converts : ConvertsIfAsked words w.file w.input w.before w.after
+  converts = λ a b is. by_convert words (λ j. DoesJob j w report) (λ a b. ConvertsOnStreams w a b) (λ from to p. p) a b is d.job d.asked d.does
 
-  pub runs : (held written : Option (List ℕ)) → IfSome report (λ r. Appends held written (report_text r)) → RunsAsked words file input old new held written
+  pub runs : (held written : Option (List ℕ)) → IfSome report (λ r. Appends held written (report_text r)) → RunsIfAsked words w held written
   runs held written told = λ a b h is. reported a b h held written report told
-      (by_run words (λ j. DoesJob j file input old new report) (λ a b h. IsSomeAnd report (RunsOver file a b h input old new)) (λ table accounts h p. p) a b h is d.job d.asked d.does)
+      (by_run words (λ j. DoesJob j w report) (λ a b h. IsSomeAnd report (RunsOnStreams w a b h)) (λ table accounts h p. p) a b h is d.job d.asked d.does)
     where
       reported : (a b : List ℕ) (h : Header) (held written : Option (List ℕ)) (known : Option Report) → IfSome known (λ r. Appends held written (report_text r))
-          → IsSomeAnd known (RunsOver file a b h input old new) → (r : Report) × RunsOver file a b h input old new r × Appends held written (report_text r)
+          → IsSomeAnd known (RunsOnStreams w a b h) → (r : Report) × RunsOnStreams w a b h r × Appends held written (report_text r)
       reported a b h held written None tells p = absurd p
       reported a b h held written (Some r) tells p = (r, p, tells)
 
 -- and likewise what stopped it
 module _ (words : List (List ℕ)) (file : List ℕ → Option (List ℕ)) (input held written : Option (List ℕ)) (stop : Stop) where
-  pub refused : StopsAsked words file input stop → status_of stop ≡ 1 → Appends held written (line_of stop) → IsRefused words file input held written
+  pub refused : StopsAskedJob words file input stop → status_of stop ≡ 1 → Appends held written (line_of stop) → IsRefused words file input held written
   refused s status line = record {
     stop = stop;
     status = status;

@@ -10,8 +10,8 @@ use Rattle.clap.proofs.OnLiterals.{clap_on_literals}
 use Rattle.iso_cli.specs.Words.{Asks, AsksNothing, AsksShow}
 use Rattle.iso_cli.specs.declared.words.Job.{Job}
 use Rattle.iso_cli.specs.declared.words.Job.TheVariants.{Echo, Check, Show, Convert, Run}
-use Rattle.iso_cli.specs.Listening.{AsksNoServe, AsksServe, Listens}
-use Rattle.iso_host.specs.Counts.{Counts}
+use Rattle.iso_cli.specs.Listening.{AsksNoServe, AsksServe, Listens, host_words}
+use Rattle.iso_host.specs.Counts.{Stream}
 use Rattle.iso_cli.specs.Stop.{status_of, stop_of_words}
 use Rattle.iso_cli.specs.Tells.{TellsLineOf}
 use Rattle.iso_cli.specs.declared.stop.Stop.{Stop}
@@ -50,7 +50,7 @@ takes_asked words l asks =
 -- where six words name no host, these words spell none
 pub none_of_six : (found : Option Listening) (words : List (List ℕ)) (table accounts header port count : List ℕ)
     → words ≡ codes "serve" ∷ table ∷ accounts ∷ header ∷ port ∷ count ∷ []
-    → IfNone found ((l : Listening) → Listens table accounts header port count l → ⊥) → IfNone found (AsksNoServe words)
+    → IfNone found ((l : Listening) → Listens (host_words table accounts header port count) l → ⊥) → IfNone found (AsksNoServe words)
 none_of_six (Some l) words table accounts header port count is none = tt
 none_of_six None words table accounts header port count is none = nothing
   where
@@ -87,12 +87,12 @@ words_status (stop.Unpack e) two = absurd (omega (arith, two))
 words_status (stop.Pack e) two = absurd (omega (arith, two))
 
 -- where status 2 was given, the stop of words was told
-pub told_words : (held written : Option (List ℕ)) (old new : Counts) (told : Stop) (given : ℕ)
-    → TellsLineOf held written old new told (status_of told) given → given ≡ 2 → told ≡ stop.Words
-told_words held written old new told given (inl (inl line)) two = words_status told (sym line.given_is ∙ two)
-told_words held written old new told given (inl (inr untold)) two = absurd (omega (arith, untold.status, two))
-told_words held written old new told given (inr (inl line)) two = absurd (omega (arith, line.given_is, two))
-told_words held written old new told given (inr (inr untold)) two = absurd (omega (arith, untold.status, two))
+pub told_words : (before after : Stream) (told : Stop) (given : ℕ)
+    → TellsLineOf before after told (status_of told) given → given ≡ 2 → told ≡ stop.Words
+told_words before after told given (inl (inl line)) two = words_status told (sym line.given_is ∙ two)
+told_words before after told given (inl (inr untold)) two = absurd (omega (arith, untold.status, two))
+told_words before after told given (inr (inl line)) two = absurd (omega (arith, line.given_is, two))
+told_words before after told given (inr (inr untold)) two = absurd (omega (arith, untold.status, two))
 
 show_first : (w : List ℕ) (ws : List (List ℕ)) (table : List ℕ) (clear : Bool) → AsksShow (w ∷ ws) table clear → w ≡ codes "show"
 show_first w ws table false is = cc

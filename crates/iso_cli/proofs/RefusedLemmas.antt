@@ -2,7 +2,7 @@
 use Rattle.std.proofs.Common.{◌≡◌, ◌≢◌, inl, inr, ℕ, Bool, true, false, IsTrue, List, [], ◌∷◌, Option, IfSome, IfErr, OnOk, Result, Ok, Err, refl, ap, subst, sym, ◌∙◌, arith}
 use Rattle.std.specs.Prelude.{codes}
 use Rattle.std.specs.Io.KnownBytes.{Appends}
-use Rattle.iso_host.specs.Counts.{Counts}
+use Rattle.iso_host.specs.Counts.{Stream, Usage}
 use Rattle.iso_host.specs.declared.fault.Report.{Report}
 use Rattle.iso_table.specs.Document.{IsNotJson, IsDocumentFault}
 use Rattle.iso_table.specs.declared.fault.TableFault.{TableFault}
@@ -10,7 +10,7 @@ use Rattle.iso_table.specs.declared.fault.TableFault.TheVariants.{NotJson, Shape
 use Rattle.iso_cli.specs.Stop.{status_of, line_of, stop_of_table, stop_of_words}
 use Rattle.iso_cli.specs.Connections.{report_text}
 use Rattle.iso_cli.specs.Tells.{Tells, TellsLineOf, TellsReport}
-use Rattle.iso_cli.specs.Turns.{HasFailed, RunTookTurns}
+use Rattle.iso_cli.specs.Turns.{HasFailed, RunUsesAllTurns}
 use Rattle.iso_cli.specs.Refused.{HoldsNone}
 use Rattle.iso_cli.specs.Words.{AsksShow, is_name}
 use Rattle.iso_cli.specs.declared.stop.Stop.{Stop}
@@ -43,39 +43,39 @@ holds_none known held e stop same is n f s =
     (subst (λ (x : Stop). HoldsNone held x) (sym is) (by_fault held e n f (subst (λ (x : Stop). status_of x ≡ 1) is s)))
 
 -- where status 1 was given, the line of a stop of that status was told whole
-pub told_whole : (held written : Option (List ℕ)) (old new : Counts) (stop : Stop) (given : ℕ) → TellsLineOf held written old new stop (status_of stop) given → given ≡ 1
-    → (status_of stop ≡ 1) × Appends held written (line_of stop)
-told_whole held written old new stop given (inl (inl told)) one = (sym told.given_is ∙ one, told.whole)
-told_whole held written old new stop given (inl (inr untold)) one = absurd (omega (arith, untold.status, one))
-told_whole held written old new stop given (inr (inl told)) one = absurd (omega (arith, told.given_is, one))
-told_whole held written old new stop given (inr (inr untold)) one = absurd (omega (arith, untold.status, one))
+pub told_whole : (before after : Stream) (stop : Stop) (given : ℕ) → TellsLineOf before after stop (status_of stop) given → given ≡ 1
+    → (status_of stop ≡ 1) × Appends before.bytes after.bytes (line_of stop)
+told_whole before after stop given (inl (inl told)) one = (sym told.given_is ∙ one, told.whole)
+told_whole before after stop given (inl (inr untold)) one = absurd (omega (arith, untold.status, one))
+told_whole before after stop given (inr (inl told)) one = absurd (omega (arith, told.given_is, one))
+told_whole before after stop given (inr (inr untold)) one = absurd (omega (arith, untold.status, one))
 
 -- where status 0 was given, the line of a report was told whole
-pub report_whole : (held written : Option (List ℕ)) (old new : Counts) (report : Report) (given : ℕ) → TellsReport held written old new report given → given ≡ 0
-    → Appends held written (report_text report)
-report_whole held written old new report given (inl (inl told)) zero = told.whole
-report_whole held written old new report given (inl (inr untold)) zero = absurd (omega (arith, untold.status, zero))
-report_whole held written old new report given (inr (inl told)) zero = absurd (omega (arith, told.given_is, zero))
-report_whole held written old new report given (inr (inr untold)) zero = absurd (omega (arith, untold.status, zero))
+pub report_whole : (before after : Stream) (report : Report) (given : ℕ) → TellsReport before after report given → given ≡ 0
+    → Appends before.bytes after.bytes (report_text report)
+report_whole before after report given (inl (inl told)) zero = told.whole
+report_whole before after report given (inl (inr untold)) zero = absurd (omega (arith, untold.status, zero))
+report_whole before after report given (inr (inl told)) zero = absurd (omega (arith, told.given_is, zero))
+report_whole before after report given (inr (inr untold)) zero = absurd (omega (arith, untold.status, zero))
 
 -- and where status 3 was, one of what failed, or the fault stream did
-module _ (words : List (List ℕ)) (input_old input_new output_old output_new : Counts) (held written : Option (List ℕ)) (old new : Counts) where
-  no_memory : Tells held written old new NoMemory 3 → HasFailed words input_old input_new output_old output_new held written old new
+module _ (words : List (List ℕ)) (used_before used_after : Usage) (before after : Stream) where
+  no_memory : Tells before after NoMemory 3 → HasFailed words used_before used_after before after
   no_memory (inl told) = inl record { stop = NoMemory; status = refl; line = told.whole; turns = λ is. cc }
   no_memory (inr untold) = inr untold.failures
 
-  pub told_failure : (stop : Stop) (given : ℕ) → TellsLineOf held written old new stop (status_of stop) given → given ≡ 3
-      → (stop ≡ TooManyTurns → RunTookTurns words input_old input_new output_old output_new)
-      → HasFailed words input_old input_new output_old output_new held written old new
+  pub told_failure : (stop : Stop) (given : ℕ) → TellsLineOf before after stop (status_of stop) given → given ≡ 3
+      → (stop ≡ TooManyTurns → RunUsesAllTurns words used_before used_after)
+      → HasFailed words used_before used_after before after
   told_failure stop given (inl (inl told)) three turns = inl record { stop = stop; status = sym told.given_is ∙ three; line = told.whole; turns = turns }
   told_failure stop given (inl (inr untold)) three turns = inr untold.failures
-  told_failure stop given (inr told) three turns = no_memory (subst (λ n. Tells held written old new NoMemory n) three told)
+  told_failure stop given (inr told) three turns = no_memory (subst (λ n. Tells before after NoMemory n) three told)
 
-  pub report_failure : (report : Report) (given : ℕ) → TellsReport held written old new report given → given ≡ 3
-      → HasFailed words input_old input_new output_old output_new held written old new
+  pub report_failure : (report : Report) (given : ℕ) → TellsReport before after report given → given ≡ 3
+      → HasFailed words used_before used_after before after
   report_failure report given (inl (inl told)) three = absurd (omega (arith, told.given_is, three))
   report_failure report given (inl (inr untold)) three = inr untold.failures
-  report_failure report given (inr told) three = no_memory (subst (λ n. Tells held written old new NoMemory n) three told)
+  report_failure report given (inr told) three = no_memory (subst (λ n. Tells before after NoMemory n) three told)
 
 -- the words' own faults have another status
 pub words_stop : (fault : WordsFault) (stop : Stop) → stop ≡ stop_of_words fault → status_of stop ≡ 1 → ⊥

@@ -2,7 +2,7 @@
 use Rattle.std.proofs.Common.{◌≡◌, ℕ, ◌≤◌, ◌<◌, List, [], ◌∷◌, map, length, get_or, Option, Some, None, IfSome, ap, ◌∙◌, refl, arith}
 use Rattle.std.specs.Borrow.{Bor}
 use Rattle.std.specs.Prelude.{codes}
-use Rattle.iso_cli.specs.Listening.{AsksServe, Listens}
+use Rattle.iso_cli.specs.Listening.{AsksServe, Listens, host_words}
 use Rattle.iso_cli.specs.declared.listening.Listening.{Listening}
 
 abbrev Words : Type 0
@@ -86,7 +86,7 @@ serve_words d l least most first =
 
 pub serve_found : (words : List (List ℕ)) (r : Option Listening) (table accounts header port count : List ℕ)
     → words ≡ codes "serve" ∷ table ∷ accounts ∷ header ∷ port ∷ count ∷ []
-    → IfSome r (Listens table accounts header port count) → IfSome r (AsksServe words)
+    → IfSome r (Listens (host_words table accounts header port count)) → IfSome r (AsksServe words)
 serve_found words None table accounts header port count is l = tt
 serve_found words (Some x) table accounts header port count is l =
     record { table = table; accounts = accounts; header = header; port = port; count = count; listens = l; spelled = is }

@@ -15,12 +15,13 @@ table_line t =
     ++ (codes " max=" ++ (decimal (max_bytes t) ++ codes "\n")))))
 
 -- what was appended is that line of the table that is named
-abbrev pub ChecksOver : (List ℕ → Option (List ℕ)) → List ℕ → Option (List ℕ) → Option (List ℕ)
-    → Type 0
-ChecksOver file table old new = (t : Layout) × IsNamed file table t × Appends old new (table_line t)
+abbrev pub ChecksOnStreams : (List ℕ → Option (List ℕ)) → List ℕ → Option (List ℕ)
+    → Option (List ℕ) → Type 0
+ChecksOnStreams file table old new = (t : Layout) × IsNamed file table t
+    × Appends old new (table_line t)
 
 -- where the words ask to check, that was appended
-abbrev pub ChecksAsked : List (List ℕ) → (List ℕ → Option (List ℕ)) → Option (List ℕ)
+abbrev pub ChecksIfAsked : List (List ℕ) → (List ℕ → Option (List ℕ)) → Option (List ℕ)
     → Option (List ℕ) → Type 0
-ChecksAsked words file old new = (table : List ℕ) → IsTrue (is_name table)
-    → words ≡ codes "check" ∷ table ∷ [] → ChecksOver file table old new
+ChecksIfAsked words file old new = (table : List ℕ) → IsTrue (is_name table)
+    → words ≡ codes "check" ∷ table ∷ [] → ChecksOnStreams file table old new

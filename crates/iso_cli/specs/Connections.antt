@@ -41,6 +41,15 @@ abbrev pub fault_line : Result Report ServeFault → List ℕ
 fault_line (Ok report) = []
 fault_line (Err fault) = unwrap_or (stop_line (stop_of_serving fault)) []
 
+-- what the output and the fault stream hold, where it is known
+pub record Lines : Type 0 where
+  pub output : Option (List ℕ)
+  pub faults : Option (List ℕ)
+
+-- this on the output, and this on the fault stream
+abbrev pub lines : Option (List ℕ) → Option (List ℕ) → Lines
+lines output faults = record { output = output; faults = faults }
+
 -- ---- all of them
 
 -- at most so many were served, on one journal: it holds the first orders of the bodies of all of them, in their order
@@ -51,16 +60,25 @@ pub record OneJournal (t : Layout) (old new : Books) (count : ℕ)
   pub counted : All (λ c. CountsBodies t c.bodies c.ended) connections
 
 -- all of them were served and told, one after the other, and none ended for want of memory
-pub record AllTold (held written heard told : Option (List ℕ)) (count : ℕ)
+pub record TellsAll (before after : Lines) (count : ℕ)
     (connections : List Connection) : Type 0 where
   pub every : length connections ≡ count
-  pub output : Appends held written (flat_map (λ c. output_line c.ended) connections)
-  pub faults : Appends heard told (flat_map (λ c. fault_line c.ended) connections)
+  pub output : Appends before.output after.output
+      (flat_map (λ c. output_line c.ended) connections)
+  pub faults : Appends before.faults after.faults (flat_map (λ c. fault_line c.ended) connections)
   pub memory : All (λ c. c.ended ≢ Err Memory) connections
 
+-- a host on a port: its books, and what was told
+pub record Port : Type 0 where
+  pub books : Books
+  pub told : Lines
+
+-- these books, and these lines that were told
+abbrev pub port : Books → Lines → Port
+port books told = record { books = books; told = told }
+
 -- the connections have one journal, and the status is 0 where all were served and told, else 3
-pub record Serves (t : Layout) (old new : Books) (count : ℕ)
-    (held written heard told : Option (List ℕ)) (status : ℕ) : Type 0 where
+pub record Serves (t : Layout) (before after : Port) (count status : ℕ) : Type 0 where
   pub connections : List Connection
-  pub one_journal : OneJournal t old new count connections
-  pub outcome : ((status ≡ 0) × AllTold held written heard told count connections) ⊎ (status ≡ 3)
+  pub one_journal : OneJournal t before.books after.books count connections
+  pub outcome : ((status ≡ 0) × TellsAll before.told after.told count connections) ⊎ (status ≡ 3)

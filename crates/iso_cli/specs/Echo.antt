@@ -5,7 +5,7 @@ use Rattle.iso_parts.specs.declared.digits.Digits.TheVariants.{Ascii}
 use Rattle.iso_table.specs.Layout.{Layout}
 use Rattle.iso_table.specs.Edition87.{IsEdition87}
 use Rattle.iso_wire.specs.Contents.{Contents}
-use Rattle.iso_wire.specs.Describing.{AreLinesOf}
+use Rattle.iso_wire.specs.Describing.{used_bytes, AreLinesOf}
 use Rattle.iso_wire.specs.Spelling.{Spelling, PlainSpelling}
 use Rattle.iso_order.specs.declared.verdict.Verdict.{Verdict}
 use Rattle.iso_order.specs.declared.verdict.Verdict.TheVariants.{Order, Reply, Silent}
@@ -32,11 +32,11 @@ answer_line b = codes "ANSWER=" ++ b ++ 10 ∷ []
 abbrev pub Echoes : Layout → List ℕ → List ℕ → Type 0
 Echoes t all b =
     (m : Contents) × (n : ℕ) × (lines : List ℕ) × (answer : List ℕ) × (n ≤ length all)
-    × Spelling t m (take n all) × AreLinesOf false t m n (length all) lines × Answers t m answer
-    × (b ≡ lines ++ answer_line answer)
+    × Spelling t m (take n all) × AreLinesOf false t m (used_bytes n (length all)) lines
+    × Answers t m answer × (b ≡ lines ++ answer_line answer)
 
 -- what was appended is that, under the table of the 1987 edition in ASCII
-abbrev pub EchoesOver : Option (List ℕ) → Option (List ℕ) → Option (List ℕ) → Type 0
-EchoesOver input old new =
+abbrev pub EchoesOnStreams : Option (List ℕ) → Option (List ℕ) → Option (List ℕ) → Type 0
+EchoesOnStreams input old new =
     IfSome input
     (λ all. (t : Layout) × (b : List ℕ) × IsEdition87 Ascii t × Echoes t all b × Appends old new b)

@@ -1,3 +1,4 @@
+pub mod AtHand
 pub mod Check
 pub mod CommandLine
 pub mod Connections

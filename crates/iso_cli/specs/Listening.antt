@@ -11,15 +11,33 @@ pub record IsWholeNumber (low high : ℕ) (word : List ℕ) (n : ℕ) : Type 0 w
   pub least : low ≤ n
   pub most : n ≤ high
 
+-- the words for a host's table, accounts, header, port and count of connections
+pub record HostWords : Type 0 where
+  pub table : List ℕ
+  pub accounts : List ℕ
+  pub header : List ℕ
+  pub port : List ℕ
+  pub count : List ℕ
+
+-- these five words
+abbrev pub host_words : List ℕ → List ℕ → List ℕ → List ℕ → List ℕ → HostWords
+host_words table accounts header port count = record {
+  table = table;
+  accounts = accounts;
+  header = header;
+  port = port;
+  count = count;
+}
+
 -- these words name a host's table, accounts, header, port and count
-pub record Listens (table accounts header port count : List ℕ) (l : Listening) : Type 0 where
-  pub table_name : IsTrue (is_name table)
-  pub accounts_name : IsTrue (is_name accounts)
-  pub table_is : l.table.now ≡ table
-  pub accounts_is : l.accounts.now ≡ accounts
-  pub header_is : header ≡ header_name l.header
-  pub port_is : IsWholeNumber 1 65535 port l.port
-  pub count_is : IsWholeNumber 1 1000 count l.count
+pub record Listens (w : HostWords) (l : Listening) : Type 0 where
+  pub table_name : IsTrue (is_name w.table)
+  pub accounts_name : IsTrue (is_name w.accounts)
+  pub table_is : l.table.now ≡ w.table
+  pub accounts_is : l.accounts.now ≡ w.accounts
+  pub header_is : w.header ≡ header_name l.header
+  pub port_is : IsWholeNumber 1 65535 w.port l.port
+  pub count_is : IsWholeNumber 1 1000 w.count l.count
 
 -- these words spell a host on a port
 pub record AsksServe (words : List (List ℕ)) (l : Listening) : Type 0 where
@@ -28,7 +46,7 @@ pub record AsksServe (words : List (List ℕ)) (l : Listening) : Type 0 where
   pub header : List ℕ
   pub port : List ℕ
   pub count : List ℕ
-  pub listens : Listens table accounts header port count l
+  pub listens : Listens (host_words table accounts header port count) l
   pub spelled : words ≡ codes "serve" ∷ table ∷ accounts ∷ header ∷ port ∷ count ∷ []
 
 -- these words spell no host on a port

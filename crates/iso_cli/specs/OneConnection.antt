@@ -1,6 +1,6 @@
 -- What serving one connection leaves, and what telling its end does.
 -- Inner: bodies and proofs cite it, and no public clause does.
-use Rattle.std.specs.Prelude.{◌≡◌, ◌≢◌, ◌⊎◌, ℕ, List, Option, Result, Err}
+use Rattle.std.specs.Prelude.{◌≡◌, ◌≢◌, ◌⊎◌, ℕ, List, Result, Err}
 use Rattle.std.specs.Io.KnownBytes.{Appends}
 use Rattle.iso_table.specs.Layout.{Layout}
 use Rattle.iso_issuer.specs.Books.{Books}
@@ -8,7 +8,7 @@ use Rattle.iso_host.specs.declared.fault.Report.{Report}
 use Rattle.iso_host.specs.declared.fault.ServeFault.{ServeFault}
 use Rattle.iso_host.specs.declared.fault.ServeFault.TheVariants.{Memory}
 use Rattle.iso_host.specs.Entering.{books_after_bodies}
-use Rattle.iso_cli.specs.Connections.{CountsBodies, output_line, fault_line}
+use Rattle.iso_cli.specs.Connections.{CountsBodies, Lines, output_line, fault_line}
 
 -- the orders of some bodies were entered, and no other
 pub record IsConnection (t : Layout) (old new : Books)
@@ -18,14 +18,12 @@ pub record IsConnection (t : Layout) (old new : Books)
   pub counted : CountsBodies t bodies ended
 
 -- the lines were written, and it didn't end for want of memory
-pub record EndTold (held written heard told : Option (List ℕ))
-    (ended : Result Report ServeFault) : Type 0 where
-  pub output : Appends held written (output_line ended)
-  pub faults : Appends heard told (fault_line ended)
+pub record TellsEnd (before after : Lines) (ended : Result Report ServeFault) : Type 0 where
+  pub output : Appends before.output after.output (output_line ended)
+  pub faults : Appends before.faults after.faults (fault_line ended)
   pub memory : ended ≢ Err Memory
 
 -- the status is 0 where that is so, and else 3
-abbrev pub TellsConnectionEnd : Option (List ℕ) → Option (List ℕ) → Option (List ℕ)
-    → Option (List ℕ) → Result Report ServeFault → ℕ → Type 0
-TellsConnectionEnd held written heard told ended status =
-    ((status ≡ 0) × EndTold held written heard told ended) ⊎ (status ≡ 3)
+abbrev pub TellsConnectionEnd : Lines → Lines → Result Report ServeFault → ℕ → Type 0
+TellsConnectionEnd before after ended status =
+    ((status ≡ 0) × TellsEnd before after ended) ⊎ (status ≡ 3)

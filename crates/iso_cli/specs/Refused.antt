@@ -90,21 +90,21 @@ ConvertStops file from to input stop =
 -- ---- the stops of the command that the words ask for
 
 -- if the words ask for `check`, it stops so
-abbrev pub CheckStopsAsked : List (List ℕ) → (List ℕ → Option (List ℕ)) → Stop → Type 0
-CheckStopsAsked words file stop = (table : List ℕ) → IsTrue (is_name table)
+abbrev pub CheckStopsIfAsked : List (List ℕ) → (List ℕ → Option (List ℕ)) → Stop → Type 0
+CheckStopsIfAsked words file stop = (table : List ℕ) → IsTrue (is_name table)
     → words ≡ codes "check" ∷ table ∷ [] → NamesNone file table stop
 
 -- if the words ask for `show`, it stops so
-abbrev pub ShowStopsAsked : List (List ℕ) → (List ℕ → Option (List ℕ)) → Option (List ℕ) → Stop
+abbrev pub ShowStopsIfAsked : List (List ℕ) → (List ℕ → Option (List ℕ)) → Option (List ℕ) → Stop
     → Type 0
-ShowStopsAsked words file input stop =
+ShowStopsIfAsked words file input stop =
     (table : List ℕ) (is_clear : Bool) → IsTrue (is_name table) → AsksShow words table is_clear
     → ShowStops file table input stop
 
 -- if the words ask for `convert`, it stops so
-abbrev pub ConvertStopsAsked : List (List ℕ) → (List ℕ → Option (List ℕ)) → Option (List ℕ) → Stop
+abbrev pub ConvertStopsIfAsked : List (List ℕ) → (List ℕ → Option (List ℕ)) → Option (List ℕ) → Stop
     → Type 0
-ConvertStopsAsked words file input stop = (from to : List ℕ)
+ConvertStopsIfAsked words file input stop = (from to : List ℕ)
     → words ≡ codes "convert" ∷ from ∷ to ∷ [] → ConvertStops file from to input stop
 
 -- what was told is the line of a stop with status 1, one of that command, `run` aside
@@ -114,6 +114,6 @@ pub record IsRefused (words : List (List ℕ)) (file : List ℕ → Option (List
   pub status : status_of stop ≡ 1
   pub line : Appends held written (line_of stop)
   pub echo : words ≡ [] → EchoStops input stop
-  pub check : CheckStopsAsked words file stop
-  pub show : ShowStopsAsked words file input stop
-  pub convert : ConvertStopsAsked words file input stop
+  pub check : CheckStopsIfAsked words file stop
+  pub show : ShowStopsIfAsked words file input stop
+  pub convert : ConvertStopsIfAsked words file input stop

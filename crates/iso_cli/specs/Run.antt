@@ -8,9 +8,11 @@ use Rattle.iso_wire.specs.Framing.{Frames}
 use Rattle.iso_issuer.specs.declared.account.Account.{Account}
 use Rattle.iso_issuer.specs.Books.{Books}
 use Rattle.iso_issuer.specs.Document.{ListsAccounts}
+use Rattle.iso_host.specs.Links.{Agreed, agreed}
 use Rattle.iso_host.specs.Output.{IsOutput}
 use Rattle.iso_host.specs.Serving.{Reports}
 use Rattle.iso_host.specs.declared.fault.Report.{Report}
+use Rattle.iso_cli.specs.AtHand.{AtHand}
 use Rattle.iso_cli.specs.Connections.{report_text}
 use Rattle.iso_cli.specs.Words.{header_name}
 use Rattle.iso_cli.specs.Tables.{IsNamed}
@@ -21,28 +23,26 @@ fresh_books accounts = record { accounts = accounts; limit = 999999; orders = []
 
 -- the input is whole frames, the bytes are the output for their bodies, and the report counts these bodies, under a table that is
 -- ready for a host
-pub record Runs (t : Layout) (accounts : List Account) (h : Header) (all b : List ℕ)
+pub record Runs (l : Agreed) (accounts : List Account) (all b : List ℕ)
     (report : Report) : Type 0 where
-  pub ready : IsHostReady t
+  pub ready : IsHostReady l.table
   pub bodies : List (List ℕ)
-  pub frames : Frames h bodies all
-  pub output : IsOutput t h (fresh_books accounts) bodies b
-  pub counted : Reports t report bodies
+  pub frames : Frames l.header bodies all
+  pub output : IsOutput l.table l.header (fresh_books accounts) bodies b
+  pub counted : Reports l.table report bodies
 
 -- what was appended is that, for the table and the accounts that are named
-abbrev pub RunsOver : (List ℕ → Option (List ℕ)) → List ℕ → List ℕ → Header → Option (List ℕ)
-    → Option (List ℕ) → Option (List ℕ) → Report → Type 0
-RunsOver file table accounts h input old new report =
-    IfSome input
-    (λ all. (t : Layout) × (listed : List Account) × (b : List ℕ) × IsNamed file table t
-    × IfSome (file accounts) (λ text. ListsAccounts text listed) × Runs t listed h all b report
-    × Appends old new b)
+abbrev pub RunsOnStreams : AtHand → List ℕ → List ℕ → Header → Report → Type 0
+RunsOnStreams w table accounts h report =
+    IfSome w.input
+    (λ all. (t : Layout) × (listed : List Account) × (b : List ℕ) × IsNamed w.file table t
+    × IfSome (w.file accounts) (λ text. ListsAccounts text listed)
+    × Runs (agreed t h) listed all b report × Appends w.before w.after b)
 
 -- where the words ask to run, that was appended to the output, and the line of the report to the fault stream
-abbrev pub RunsAsked : List (List ℕ) → (List ℕ → Option (List ℕ)) → Option (List ℕ)
-    → Option (List ℕ) → Option (List ℕ) → Option (List ℕ) → Option (List ℕ) → Type 0
-RunsAsked words file input old new held written =
+abbrev pub RunsIfAsked : List (List ℕ) → AtHand → Option (List ℕ) → Option (List ℕ) → Type 0
+RunsIfAsked words w held written =
     (table accounts : List ℕ) (header : Header)
     → words ≡ codes "run" ∷ table ∷ accounts ∷ header_name header ∷ []
-    → (report : Report) × RunsOver file table accounts header input old new report
+    → (report : Report) × RunsOnStreams w table accounts header report
     × Appends held written (report_text report)

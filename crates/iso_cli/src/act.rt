@@ -1,12 +1,14 @@
 //! What the command does.
 
 ghost use Rattle.std.specs.Prelude.{◌≡◌, ◌≤◌, [], map};
-ghost use Rattle.iso_cli.specs.Echo.{EchoesOver};
-ghost use Rattle.iso_cli.specs.Check.{ChecksAsked};
-ghost use Rattle.iso_cli.specs.Convert.{ConvertsAsked};
+ghost use Rattle.iso_host.specs.Counts.{stream, usage};
+ghost use Rattle.iso_cli.specs.AtHand.{at_hand};
+ghost use Rattle.iso_cli.specs.Echo.{EchoesOnStreams};
+ghost use Rattle.iso_cli.specs.Check.{ChecksIfAsked};
+ghost use Rattle.iso_cli.specs.Convert.{ConvertsIfAsked};
 ghost use Rattle.iso_cli.specs.Jobs.{Performs};
-ghost use Rattle.iso_cli.specs.Run.{RunsAsked};
-ghost use Rattle.iso_cli.specs.Show.{ShowsAsked};
+ghost use Rattle.iso_cli.specs.Run.{RunsIfAsked};
+ghost use Rattle.iso_cli.specs.Show.{ShowsIfAsked};
 ghost use Rattle.iso_cli.specs.Tells.{TellsEnding};
 ghost use Rattle.iso_cli.specs.Turns.{HasFailed};
 ghost use Rattle.iso_cli.specs.Words.{AsksNothing};
@@ -32,10 +34,11 @@ fn perform<S: Source, I: Inlet, O: Outlet>(
     input: &mut I,
     output: &mut O,
 ) -> Result<Option<Report>, Stop>
-    ensures { Performs (map (λ w. w.now) words.now) (S.file source.now)
-        (I.remaining input.old) (O.contents output.old) (O.contents output.new)
-        (I.counts input.old) (I.counts input.new)
-        (O.counts output.old) (O.counts output.new) result }
+    ensures { Performs (map (λ w. w.now) words.now)
+        (at_hand (S.file source.now) (I.remaining input.old)
+        (O.contents output.old) (O.contents output.new))
+        (usage (I.counts input.old) (O.counts output.old))
+        (usage (I.counts input.new) (O.counts output.new)) result }
 {
     match parse(alloc, words)? {
         Job::Echo => echo(alloc, input, output)?,
@@ -64,23 +67,24 @@ pub fn act<S: Source, I: Inlet, O: Outlet, F: Outlet>(
     // Without words, at status 0, the output grew by the message's lines, what a bystander
     // shouldn't read hidden, and by `ANSWER=` with the response that it decides itself, or `none`.
     ensures echo { words.now ≡ [] → result ≡ 0
-        → EchoesOver (I.remaining input.old) (O.contents output.old) (O.contents output.new) }
+        → EchoesOnStreams (I.remaining input.old) (O.contents output.old) (O.contents output.new) }
     // At status 0 of `check`, the output grew by the line of the table that is named: its version,
     // how many rows it has, and how many bytes a message may take.
-    ensures check { result ≡ 0 → ChecksAsked (map (λ w. w.now) words.now) (S.file source.now)
+    ensures check { result ≡ 0 → ChecksIfAsked (map (λ w. w.now) words.now) (S.file source.now)
         (O.contents output.old) (O.contents output.new) }
     // At status 0 of `show`, the output grew by the lines of the message that the input begins
     // with; without `--clear`, what a bystander shouldn't read is hidden.
-    ensures show { result ≡ 0 → ShowsAsked (map (λ w. w.now) words.now) (S.file source.now)
+    ensures show { result ≡ 0 → ShowsIfAsked (map (λ w. w.now) words.now) (S.file source.now)
         (I.remaining input.old) (O.contents output.old) (O.contents output.new) }
     // At status 0 of `convert`, the output grew by the plain spelling, under the second table, of
     // the message that the whole input spells under the first.
-    ensures convert { result ≡ 0 → ConvertsAsked (map (λ w. w.now) words.now) (S.file source.now)
+    ensures convert { result ≡ 0 → ConvertsIfAsked (map (λ w. w.now) words.now) (S.file source.now)
         (I.remaining input.old) (O.contents output.old) (O.contents output.new) }
     // At status 0 of `run`, the output grew by that for the bodies of the whole input, from an
     // empty journal, and the fault stream by the report that counts them.
-    ensures run { result ≡ 0 → RunsAsked (map (λ w. w.now) words.now) (S.file source.now)
-        (I.remaining input.old) (O.contents output.old) (O.contents output.new)
+    ensures run { result ≡ 0 → RunsIfAsked (map (λ w. w.now) words.now)
+        (at_hand (S.file source.now) (I.remaining input.old)
+        (O.contents output.old) (O.contents output.new))
         (F.contents faults.old) (F.contents faults.new) }
     // At status 1 the line of a stop is told: but for `run`, of the first thing that is refused, be
     // it a table, too long an input, or what the input holds.
@@ -91,15 +95,16 @@ pub fn act<S: Source, I: Inlet, O: Outlet, F: Outlet>(
     // At status 3 the line of what failed is told, or the fault stream failed. `TooManyTurns` is
     // told of `run` alone, after exactly 100,000,000 reads and writes.
     ensures failed { result ≡ 3 → HasFailed (map (λ w. w.now) words.now)
-        (I.counts input.old) (I.counts input.new) (O.counts output.old) (O.counts output.new)
-        (F.contents faults.old) (F.contents faults.new)
-        (F.counts faults.old) (F.counts faults.new) }
+        (usage (I.counts input.old) (O.counts output.old))
+        (usage (I.counts input.new) (O.counts output.new))
+        (stream (F.contents faults.old) (F.counts faults.old))
+        (stream (F.contents faults.new) (F.counts faults.new)) }
     // The status is 0 to 3.
     ensures status { result ≤ 3 }
     // The fault stream got nothing, at status 0; or the report of `run` or a stop's line, with its
     // status; or no more than a front of one, with status 3.
-    ensures told { TellsEnding (F.contents faults.old) (F.contents faults.new)
-        (F.counts faults.old) (F.counts faults.new) result }
+    ensures told { TellsEnding (stream (F.contents faults.old) (F.counts faults.old))
+        (stream (F.contents faults.new) (F.counts faults.new)) result }
 {
     match perform(alloc, words, source, input, output) {
         Ok(None) => 0,

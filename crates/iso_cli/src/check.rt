@@ -1,7 +1,7 @@
 //! What a table is.
 
 ghost use Rattle.std.specs.Prelude.{◌≡◌, ◌≢◌, IfErr, IfOk, OnOk, string_bytes};
-ghost use Rattle.iso_cli.specs.Check.{ChecksOver, table_line};
+ghost use Rattle.iso_cli.specs.Check.{ChecksOnStreams, table_line};
 ghost use Rattle.iso_cli.specs.Stop.{status_of};
 ghost use Rattle.iso_cli.specs.Refused.{NamesNone};
 ghost use Rattle.iso_cli.specs.declared.stop.Stop.TheVariants.{TooManyTurns, Words};
@@ -31,8 +31,8 @@ pub fn check<S: Source, O: Outlet>(
 ) -> Result<(), Stop>
     // Where it succeeds, what was written is the line of the table that is named: its version, how
     // many rows it has, and how many bytes a message may take.
-    ensures line { OnOk result
-        (ChecksOver (S.file source.now) table.now (O.contents output.old) (O.contents output.new)) }
+    ensures line { OnOk result (ChecksOnStreams (S.file source.now) table.now
+        (O.contents output.old) (O.contents output.new)) }
     // A stop of status 1 tells what is wrong with the document that the word names: it is too long,
     // is no JSON, or has this first fault as a table.
     ensures stop { IfErr result

@@ -1,9 +1,10 @@
 //! Connections, one after the other, with one journal.
 
 ghost use Rattle.iso_table.specs.HostReady.{IsHostReady};
-ghost use Rattle.iso_cli.specs.Connections.{Serves};
+ghost use Rattle.iso_cli.specs.Connections.{Serves, lines, port};
 ghost use Rattle.iso_cli.specs.OneConnection.{IsConnection, TellsConnectionEnd};
 ghost use Rattle.iso_cli.specs.Turns.{most_turns};
+ghost use Rattle.iso_host.specs.Counts.{usage};
 ghost use Rattle.iso_host.specs.Serving.{Cause, WithinTurns};
 
 use crate::report::write_report;
@@ -28,10 +29,10 @@ fn serve_directions<R: Inlet, W: Outlet>(
 ) -> Result<Report, ServeFault>
     requires { IsHostReady table.now }
     ensures connection { IsConnection table.now issuer.old issuer.new result }
-    ensures within { WithinTurns (R.counts reader.old) (R.counts reader.new)
-        (W.counts writer.old) (W.counts writer.new) most_turns }
-    ensures cause { Cause (R.counts reader.old) (R.counts reader.new)
-        (W.counts writer.old) (W.counts writer.new) most_turns result }
+    ensures within { WithinTurns (usage (R.counts reader.old) (W.counts writer.old))
+        (usage (R.counts reader.new) (W.counts writer.new)) most_turns }
+    ensures cause { Cause (usage (R.counts reader.old) (W.counts writer.old))
+        (usage (R.counts reader.new) (W.counts writer.new)) most_turns result }
 {
     serve(alloc, table, header, issuer, reader, writer, MOST_TURNS)
 }
@@ -87,8 +88,8 @@ fn tell_end<O: Outlet, F: Outlet>(
     output: &mut O,
     faults: &mut F,
 ) -> u8
-    ensures told { TellsConnectionEnd (O.contents output.old) (O.contents output.new)
-        (F.contents faults.old) (F.contents faults.new) ended result }
+    ensures told { TellsConnectionEnd (lines (O.contents output.old) (F.contents faults.old))
+        (lines (O.contents output.new) (F.contents faults.new)) ended result }
 {
     match ended {
         Ok(report) => write_report(alloc, report, output, faults),
@@ -118,9 +119,9 @@ pub fn serve_connections<O: Outlet, F: Outlet>(
     requires { IsHostReady table.now }
     // The books are those after the bodies of at most `count` connections, in turn. With status 0
     // exactly `count` were served and told, and none ended for want of memory; else it is 3.
-    ensures served { Serves table.now issuer.old issuer.new count
-        (O.contents output.old) (O.contents output.new)
-        (F.contents faults.old) (F.contents faults.new) result }
+    ensures served { Serves table.now
+        (port issuer.old (lines (O.contents output.old) (F.contents faults.old)))
+        (port issuer.new (lines (O.contents output.new) (F.contents faults.new))) count result }
 {
     // the proof learns here that bodies behind those of another connection are handled as all of them on one stream
     one_journal(issuer);

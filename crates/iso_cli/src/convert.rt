@@ -3,7 +3,8 @@
 ghost use Rattle.std.specs.Prelude.{◌≡◌, ◌≢◌, IfErr, IfOk, OnOk, Some};
 ghost use Rattle.iso_wire.specs.Reading.{message_at};
 ghost use Rattle.iso_wire.specs.Spelling.{Converts};
-ghost use Rattle.iso_cli.specs.Convert.{ConvertsOver};
+ghost use Rattle.iso_cli.specs.AtHand.{at_hand};
+ghost use Rattle.iso_cli.specs.Convert.{ConvertsOnStreams};
 ghost use Rattle.iso_cli.specs.Stop.{status_of};
 ghost use Rattle.iso_cli.specs.declared.stop.Stop.TheVariants.{Memory, TooManyTurns, Words};
 ghost use Rattle.iso_cli.specs.Refused.{ConvertStops, rewrite_stop};
@@ -43,8 +44,8 @@ pub fn convert<S: Source, I: Inlet, O: Outlet>(
 ) -> Result<(), Stop>
     // Where it succeeds, what was written is the plain spelling, under the second table, of the
     // message that the whole input spells under the first.
-    ensures packed { OnOk result (ConvertsOver (S.file source.now) from.now to.now
-        (I.remaining input.old) (O.contents output.old) (O.contents output.new)) }
+    ensures packed { OnOk result (ConvertsOnStreams (at_hand (S.file source.now)
+        (I.remaining input.old) (O.contents output.old) (O.contents output.new)) from.now to.now) }
     // A stop of status 1 is the first fault there is: of the first table, of the second, of too
     // long an input, of reading the message, of bytes behind it, or of writing it anew.
     ensures stop { IfErr result (λ stop. status_of stop ≡ 1

@@ -1,7 +1,7 @@
 //! A message for human eyes: the lines that tell it, and one for the bytes that it took.
 
 ghost use Rattle.std.specs.Prelude.{IfOk};
-ghost use Rattle.iso_wire.specs.Describing.{AreLinesOf};
+ghost use Rattle.iso_wire.specs.Describing.{used_bytes, AreLinesOf};
 
 use iso_table::Table;
 use iso_wire::{Message, append_used, describe, describe_clear};
@@ -17,7 +17,8 @@ pub fn shown_lines(
     total: usize,
     clear: bool,
 ) -> Result<Vec<u8>, AllocError>
-    ensures { IfOk result (λ out. AreLinesOf clear table.now message.now used total out.items) }
+    ensures { IfOk result
+        (λ out. AreLinesOf clear table.now message.now (used_bytes used total) out.items) }
 {
     let mut out = if clear {
         describe_clear(alloc, table, message)?

@@ -3,7 +3,7 @@
 ghost use Rattle.std.specs.Prelude.{◌≡◌, ◌≢◌, ◌++◌, IfErr, IfOk, OnOk, Some};
 ghost use Rattle.iso_wire.specs.Reading.{message_at};
 ghost use Rattle.iso_order.specs.Verdict.{verdict};
-ghost use Rattle.iso_cli.specs.Echo.{Answers, Echoes, EchoesOver, answer_line};
+ghost use Rattle.iso_cli.specs.Echo.{Answers, Echoes, EchoesOnStreams, answer_line};
 ghost use Rattle.iso_cli.specs.Stop.{status_of};
 ghost use Rattle.iso_cli.specs.declared.stop.Stop.TheVariants.{Memory, TooManyTurns, Words};
 ghost use Rattle.iso_cli.specs.Refused.{EchoStops, echo_stop, reply_stop};
@@ -62,7 +62,7 @@ pub fn echo<I: Inlet, O: Outlet>(alloc: Global, input: &mut I, output: &mut O) -
     // Where it succeeds, what was written is the message's lines, what a bystander shouldn't read
     // hidden, and then `ANSWER=` with the response that the message decides, or `none`.
     ensures text { OnOk result
-        (EchoesOver (I.remaining input.old) (O.contents output.old) (O.contents output.new)) }
+        (EchoesOnStreams (I.remaining input.old) (O.contents output.old) (O.contents output.new)) }
     // A stop of status 1 is the first fault there is: of too long an input, of reading the message
     // that it begins with, or of writing the response.
     ensures stop { IfErr result

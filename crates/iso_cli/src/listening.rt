@@ -4,7 +4,7 @@
 ghost use Rattle.std.specs.Prelude.{◌≡◌, ℕ, IfErr, IfNone, IfOk, IfSome, IsErrOf, map, true};
 ghost use Rattle.clap.specs.Words.{takes};
 ghost use Rattle.iso_cli.specs.CommandLine.{port_app};
-ghost use Rattle.iso_cli.specs.Listening.{AsksNoServe, AsksServe, IsWholeNumber, Listens};
+ghost use Rattle.iso_cli.specs.Listening.{AsksNoServe, AsksServe, IsWholeNumber, Listens, host_words};
 ghost use Rattle.iso_cli.specs.declared.listening.Listening.{Listening};
 
 use crate::subcommands::{Subcommand, judge_words};
@@ -61,9 +61,10 @@ fn listening_by<'a>(
     port: &str,
     count: &str,
 ) -> Option<Listening<'a>>
-    ensures found { IfSome result (Listens table.now accounts.now header.now port.now count.now) }
-    ensures none { IfNone result
-        ((l : Listening) → Listens table.now accounts.now header.now port.now count.now l → ⊥) }
+    ensures found { IfSome result
+        (Listens (host_words table.now accounts.now header.now port.now count.now)) }
+    ensures none { IfNone result ((l : Listening)
+        → Listens (host_words table.now accounts.now header.now port.now count.now) l → ⊥) }
 {
     if !is_name(table) || !is_name(accounts) {
         return None;

@@ -4,6 +4,7 @@ ghost use Rattle.std.specs.Prelude.{◌≡◌, ◌≤◌, IfErr, IfOk, OnOk, map
 ghost use Rattle.iso_cli.specs.Listening.{AsksNoServe};
 ghost use Rattle.iso_cli.specs.Prepare.{Prepares};
 ghost use Rattle.iso_cli.specs.Tells.{TellsStop};
+ghost use Rattle.iso_host.specs.Counts.{stream};
 ghost use Rattle.iso_cli.specs.declared.stop.Stop.TheVariants as Stop;
 
 use crate::listening::parse_serve;
@@ -67,8 +68,8 @@ pub fn prepare<S: Source, F: Outlet>(
     ensures words { IfErr result (λ status. status ≡ 2 → AsksNoServe (map (λ w. w.now) words.now)) }
     // Where it fails, the line of one stop is told, with the status of that stop; or a write
     // failed, and the status is 3.
-    ensures told { IfErr result (TellsStop (F.contents faults.old) (F.contents faults.new)
-        (F.counts faults.old) (F.counts faults.new)) }
+    ensures told { IfErr result (TellsStop (stream (F.contents faults.old) (F.counts faults.old))
+        (stream (F.contents faults.new) (F.counts faults.new))) }
     // Where it succeeds, nothing is told.
     ensures quiet { OnOk result (F.contents faults.new ≡ F.contents faults.old) }
 {

@@ -1,7 +1,8 @@
 //! The line that tells what came of the frames.
 
 ghost use Rattle.std.specs.Prelude.{◌≡◌, ◌⊎◌, IfOk, Ok, string_bytes};
-ghost use Rattle.iso_cli.specs.Connections.{report_text};
+ghost use Rattle.iso_host.specs.Counts.{stream};
+ghost use Rattle.iso_cli.specs.Connections.{lines, report_text};
 ghost use Rattle.iso_cli.specs.OneConnection.{TellsConnectionEnd};
 ghost use Rattle.iso_cli.specs.Tells.{TellsReport};
 
@@ -30,8 +31,8 @@ pub fn tell_report<F: Outlet>(alloc: Global, faults: &mut F, report: Report) -> 
     ensures status { (result ≡ 0) ⊎ (result ≡ 3) }
     // The report's line is written, with status 0; or `failed: Memory`, with 3, for want of memory;
     // or a write failed behind no more than a front of such a line, with 3.
-    ensures told { TellsReport (F.contents faults.old) (F.contents faults.new)
-        (F.counts faults.old) (F.counts faults.new) report result }
+    ensures told { TellsReport (stream (F.contents faults.old) (F.counts faults.old))
+        (stream (F.contents faults.new) (F.counts faults.new)) report result }
 {
     match report_line(alloc, report) {
         Ok(line) => tell_line(faults, &line, 0),
@@ -49,8 +50,8 @@ pub fn write_report<O: Outlet, F: Outlet>(
 ) -> u8
     // With status 0 the output has grown by the line of the report, and the fault stream by
     // nothing. Every other status is 3.
-    ensures { TellsConnectionEnd (O.contents output.old) (O.contents output.new)
-        (F.contents faults.old) (F.contents faults.new) (Ok report) result }
+    ensures { TellsConnectionEnd (lines (O.contents output.old) (F.contents faults.old))
+        (lines (O.contents output.new) (F.contents faults.new)) (Ok report) result }
 {
     let Ok(line) = report_line(alloc, report) else {
         return tell(alloc, faults, Stop::Memory);

@@ -2,9 +2,11 @@
 
 ghost use Rattle.std.specs.Prelude.{◌≡◌, ◌≢◌, IfErr, IfOk, IfSome};
 ghost use Rattle.iso_issuer.specs.Document.{ListsAccounts};
-ghost use Rattle.iso_host.specs.Serving.{TookTurns, WithinTurns};
+ghost use Rattle.iso_host.specs.Counts.{usage};
+ghost use Rattle.iso_host.specs.Serving.{UsesAllTurns, WithinTurns};
 ghost use Rattle.iso_table.specs.HostReady.{IsHostReady};
-ghost use Rattle.iso_cli.specs.Run.{RunsOver};
+ghost use Rattle.iso_cli.specs.AtHand.{at_hand};
+ghost use Rattle.iso_cli.specs.Run.{RunsOnStreams};
 ghost use Rattle.iso_cli.specs.Tables.{IsNamed};
 ghost use Rattle.iso_cli.specs.Turns.{most_turns};
 ghost use Rattle.iso_cli.specs.declared.stop.Stop.TheVariants.{TooManyTurns, Words};
@@ -65,18 +67,19 @@ pub fn run<S: Source, I: Inlet, O: Outlet>(
 ) -> Result<Report, Stop>
     // Where it succeeds, the whole input is frames; what was written is the host's output for their
     // bodies, from an empty journal, and the report counts these bodies by kind.
-    ensures output { IfOk result (RunsOver (S.file source.now) table.now accounts.now header
-        (I.remaining input.old) (O.contents output.old) (O.contents output.new)) }
+    ensures output { IfOk result (RunsOnStreams (at_hand (S.file source.now) (I.remaining input.old)
+        (O.contents output.old) (O.contents output.new)) table.now accounts.now header) }
     // No stop says that the command line is refused.
     ensures words { IfErr result (λ stop. stop ≢ Words) }
     // However it ends, the reads and writes together are at most 100,000,000. They are too many only after so many.
-    ensures within { WithinTurns (I.counts input.old) (I.counts input.new)
-        (O.counts output.old) (O.counts output.new) most_turns }
+    ensures within { WithinTurns (usage (I.counts input.old) (O.counts output.old))
+        (usage (I.counts input.new) (O.counts output.new)) most_turns }
     // It stops for too many turns only after exactly 100,000,000 reads and writes, which moved at
     // least as many bytes.
     ensures turns { IfErr result
-        (λ stop. stop ≡ TooManyTurns → TookTurns (I.counts input.old) (I.counts input.new)
-        (O.counts output.old) (O.counts output.new) most_turns) }
+        (λ stop. stop ≡ TooManyTurns → UsesAllTurns
+        (usage (I.counts input.old) (O.counts output.old))
+        (usage (I.counts input.new) (O.counts output.new)) most_turns) }
 {
     let table = host_table(alloc, source, table)?;
     let accounts = accounts_at(alloc, source, accounts)?;

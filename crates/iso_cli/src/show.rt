@@ -2,7 +2,8 @@
 
 ghost use Rattle.std.specs.Prelude.{◌≡◌, ◌≢◌, IfErr, IfOk, OnOk, Some};
 ghost use Rattle.iso_wire.specs.Reading.{message_at};
-ghost use Rattle.iso_cli.specs.Show.{Shows, ShowsOver};
+ghost use Rattle.iso_cli.specs.AtHand.{at_hand};
+ghost use Rattle.iso_cli.specs.Show.{Shows, ShowsOnStreams};
 ghost use Rattle.iso_cli.specs.Stop.{status_of};
 ghost use Rattle.iso_cli.specs.declared.stop.Stop.TheVariants.{Memory, TooManyTurns, Words};
 ghost use Rattle.iso_cli.specs.Refused.{ShowStops, read_stop};
@@ -40,8 +41,8 @@ pub fn show<S: Source, I: Inlet, O: Outlet>(
 ) -> Result<(), Stop>
     // Where it succeeds, what was written is the lines of the message that the input begins with;
     // unless `clear` is asked for, what a bystander shouldn't read is hidden.
-    ensures lines { OnOk result (ShowsOver (S.file source.now) table.now clear
-        (I.remaining input.old) (O.contents output.old) (O.contents output.new)) }
+    ensures lines { OnOk result (ShowsOnStreams (at_hand (S.file source.now) (I.remaining input.old)
+        (O.contents output.old) (O.contents output.new)) table.now clear) }
     // A stop of status 1 is the first fault there is: of the table's document, of too long an
     // input, or of reading the message that it begins with.
     ensures stop { IfErr result (λ stop. status_of stop ≡ 1

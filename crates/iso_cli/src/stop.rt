@@ -1,5 +1,6 @@
 //! How the command stops where it doesn't end well: a line on the fault stream, and a status.
 ghost use Rattle.std.specs.Prelude.{◌≡◌, ◌<◌, ◌≤◌, option_map};
+ghost use Rattle.iso_host.specs.Counts.{stream};
 ghost use Rattle.iso_cli.specs.Stop.{status_of, stop_line, stop_of_accounts, stop_of_input, stop_of_pack};
 ghost use Rattle.iso_cli.specs.Stop.{stop_of_serving, stop_of_source, stop_of_table, stop_of_unpack, stop_of_words};
 ghost use Rattle.iso_cli.specs.declared.stop.Stop.TheVariants.{Host, Memory};
@@ -214,8 +215,8 @@ pub fn tell_line<F: Outlet>(faults: &mut F, line: &str, status: u8) -> u8
     requires { status ≤ 3 }
     // The whole line is written and no write failed, with this status; or a write failed behind no
     // more than a front of the line, and the status is 3.
-    ensures told { TellsLine (F.contents faults.old) (F.contents faults.new)
-        (F.counts faults.old) (F.counts faults.new) line.now status result }
+    ensures told { TellsLine (stream (F.contents faults.old) (F.counts faults.old))
+        (stream (F.contents faults.new) (F.counts faults.new)) line.now status result }
     // The status is the one that is asked for or a higher one, and at most 3.
     ensures range { (status ≤ result) × (result ≤ 3) }
 {
@@ -232,12 +233,12 @@ pub fn tell_as<F: Outlet>(alloc: Global, faults: &mut F, stop: Stop, status: u8)
     requires { status ≤ 3 }
     // A line that names no further fault is written whole, with this status; or a write failed
     // behind no more than a front of it, and the status is 3.
-    ensures told { TellsAs (F.contents faults.old) (F.contents faults.new)
-        (F.counts faults.old) (F.counts faults.new) stop status result }
+    ensures told { TellsAs (stream (F.contents faults.old) (F.counts faults.old))
+        (stream (F.contents faults.new) (F.counts faults.new)) stop status result }
     // The stop's own line is written, with this status, or `failed: Memory` with 3 for want of
     // memory; or a write failed behind no more than a front of such a line, with 3.
-    ensures line { TellsLineOf (F.contents faults.old) (F.contents faults.new)
-        (F.counts faults.old) (F.counts faults.new) stop status result }
+    ensures line { TellsLineOf (stream (F.contents faults.old) (F.counts faults.old))
+        (stream (F.contents faults.new) (F.counts faults.new)) stop status result }
     // The status is the one that is asked for or a higher one, and at most 3.
     ensures range { (status ≤ result) × (result ≤ 3) }
 {
@@ -255,16 +256,16 @@ pub fn tell_as<F: Outlet>(alloc: Global, faults: &mut F, stop: Stop, status: u8)
 pub fn tell<F: Outlet>(alloc: Global, faults: &mut F, stop: Stop) -> u8
     // A line that names no further fault is written whole, with the stop's status; or a write
     // failed behind no more than a front of it, and the status is 3.
-    ensures told { Tells (F.contents faults.old) (F.contents faults.new)
-        (F.counts faults.old) (F.counts faults.new) stop result }
+    ensures told { Tells (stream (F.contents faults.old) (F.counts faults.old))
+        (stream (F.contents faults.new) (F.counts faults.new)) stop result }
     // The stop's own line is written, with its status, or `failed: Memory` with 3 for want of
     // memory; or a write failed behind no more than a front of such a line, with 3.
-    ensures line { TellsLineOf (F.contents faults.old) (F.contents faults.new)
-        (F.counts faults.old) (F.counts faults.new) stop (status_of stop) result }
+    ensures line { TellsLineOf (stream (F.contents faults.old) (F.counts faults.old))
+        (stream (F.contents faults.new) (F.counts faults.new)) stop (status_of stop) result }
     // What is told is the line of one stop, with the status of that stop; or a write failed, and
     // the status is 3.
-    ensures stop { TellsStop (F.contents faults.old) (F.contents faults.new)
-        (F.counts faults.old) (F.counts faults.new) result }
+    ensures stop { TellsStop (stream (F.contents faults.old) (F.counts faults.old))
+        (stream (F.contents faults.new) (F.counts faults.new)) result }
     // The status is 1 to 3.
     ensures range { (1 ≤ result) × (result ≤ 3) }
 {

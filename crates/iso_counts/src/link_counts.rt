@@ -7,12 +7,10 @@ use crate::histogram::Histogram;
 use crate::kind::{KINDS, Kind};
 use crate::reasons::{CLOSINGS, REFUSALS, closing_place, refusal_place};
 use iso_lines::{Closing, Event, Refusal};
+use iso_order::codes::INVALID_TRANSACTION;
 
 /// How many response codes there are.
 pub const CODES: usize = 100;
-
-/// The code of an order of an acquirer that its link may not speak for.
-const FOREIGN: u8 = 12;
 
 /// What is counted of one link. Counts stop at the greatest number.
 #[derive(Clone, Copy, Debug, PartialEq, Eq)]
@@ -129,7 +127,7 @@ impl LinkCounts {
                 ..
             } => self.count_answer(Kind::of_frame(kind), code, micros),
             Event::Foreign { kind, micros, .. } => {
-                self.count_answer(Kind::of_frame(kind), FOREIGN, micros);
+                self.count_answer(Kind::of_frame(kind), INVALID_TRANSACTION, micros);
                 self.foreign = self.foreign.saturating_add(1);
             }
             Event::Silent { kind, .. } => {

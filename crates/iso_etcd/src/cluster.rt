@@ -3,7 +3,7 @@ ghost use Rattle.std.specs.Prelude.{◌≡◌};
 ghost use Rattle.iso_etcd.specs.Turns.{turn_after};
 
 use crate::append::Cause;
-use crate::dial::{Dial, Waits, left};
+use crate::dial::{Dial, Waits, time_left};
 use crate::endpoints::Endpoints;
 use crate::link::{Link, Term};
 use crate::login::{is_token_refused, later_of, login_of};
@@ -72,7 +72,7 @@ impl<D: Dial + Drop> Cluster<D> {
 
     /// A connection to the member whose turn it is.
     fn connect(&self, term: Term) -> Option<Link<D::Stream>> {
-        let wait = left(self.dial.now()?, term.end, self.waits.connect)?;
+        let wait = time_left(self.dial.now()?, term.end, self.waits.connect)?;
         let stream = self.dial.dial(self.members.get(self.turn)?, wait)?;
         Some(Link::new(self.alloc, stream))
     }

@@ -17,7 +17,7 @@ pub struct Waits {
 }
 
 /// How long may be waited now, if the end isn't there yet.
-pub fn left(now: u64, end: u64, most: u64) -> Option<u64>
+pub fn time_left(now: u64, end: u64, most: u64) -> Option<u64>
     // What is left up to the end may be waited, but never more than `most`; nothing from the end
     // on.
     ensures { result ≡ left_of now end most }

@@ -32,7 +32,7 @@ pub use crate::active::HEADING_SIZE;
 pub use crate::answer::{PutAnswer, read_put};
 pub use crate::append::{Append, Cause, Doubt};
 pub use crate::cluster::Cluster;
-pub use crate::dial::{Dial, Timed, Waits, Watch, left};
+pub use crate::dial::{Dial, Timed, Waits, Watch, time_left};
 pub use crate::endpoints::{Endpoints, MOST_MEMBERS};
 pub use crate::endpoints_fault::EndpointsFault;
 pub use crate::fault::{Fault, fault_of};

@@ -2,7 +2,7 @@
 ghost use Rattle.std.specs.Prelude.{◌≡◌, IfErr};
 ghost use Rattle.iso_etcd.specs.Links.{link_stream, IsUnsent};
 
-use crate::dial::{Timed, Watch, left};
+use crate::dial::{Timed, Watch, time_left};
 use crate::request::{Request, request_text};
 use crate::response::{Loss, Response};
 use bytes::BytesMut;
@@ -99,7 +99,7 @@ impl<S: Timed> Link<S> {
         ensures { S.contents (link_stream self.new) ≡ S.contents (link_stream self.old) }
     {
         match watch.now() {
-            Some(now) => match left(now, term.end, term.each) {
+            Some(now) => match time_left(now, term.end, term.each) {
                 Some(wait) => self.stream.set_wait(wait),
                 None => false,
             },

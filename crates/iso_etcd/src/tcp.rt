@@ -61,14 +61,14 @@ impl<S: Read + Write + OpenStream + Drop> Timed for Socket<S> {
 
 impl<'n, N: Net + Clock> Tcp<'n, N> {
     /// How long is left until the end.
-    fn left(&self, end: u64) -> Option<Duration> {
+    fn time_left(&self, end: u64) -> Option<Duration> {
         let left = end.checked_sub(self.now()?)?;
         Some(Duration::from_millis(left))
     }
 
     /// Connects to one address, before the end of the wait.
     fn connect(&self, address: SocketAddr, end: u64) -> Option<Socket<N::Stream>> {
-        let wait = self.left(end)?;
+        let wait = self.time_left(end)?;
         match TcpStream::connect_timeout(self.net, &address, wait) {
             Ok(stream) => {
                 let _ = stream.set_nodelay(true);

@@ -6,7 +6,7 @@ use Rattle.std.proofs.lemmas.List.{get_or-drop, get_or-take, length-take, length
 use Rattle.sqlite_disk.specs.Disk.{Holds, Torn, Mixed, Follows}
 use Rattle.sqlite_disk.specs.Events.{overlaid}
 use Rattle.sqlite_disk.proofs.EventLemmas.{Holds-overlaid, Torn-overlaid, Torn-within, Mixed-then}
-use Rattle.iso_gather.specs.Shown.{shown, Left}
+use Rattle.iso_gather.specs.Shown.{shown, Leaves}
 
 -- ---- a write of the bytes that wait
 
@@ -43,11 +43,11 @@ torn_again at (byte ∷ more) file new within some torn =
     same_file at bytes file (overlaid new at bytes) (overlaid file at bytes) within over (Holds-overlaid new at bytes) (Torn-overlaid file at bytes) (Holds-overlaid file at bytes)
 
 module _ (at : ℕ) (old new : List ℕ → Type 0) where
-  pub left_written : (waiting : List ℕ) → 0 < length waiting → Follows (Mixed at waiting) old new → (c : List ℕ) → new c → Left at waiting old c
+  pub left_written : (waiting : List ℕ) → 0 < length waiting → Follows (Mixed at waiting) old new → (c : List ℕ) → new c → Leaves at waiting old c
   left_written [] some follows c may = absurd (omega (arith, some))
   left_written (byte ∷ more) some follows c may = follows c may
 
-  pub left_torn : (waiting : List ℕ) → 0 < length waiting → Follows (Mixed at waiting) old new → (c : List ℕ) → Left at waiting new c → Left at waiting old c
+  pub left_torn : (waiting : List ℕ) → 0 < length waiting → Follows (Mixed at waiting) old new → (c : List ℕ) → Leaves at waiting new c → Leaves at waiting old c
   left_torn [] some follows c may = absurd (omega (arith, some))
   left_torn (byte ∷ more) some follows c may =
       let bytes = byte ∷ more in
@@ -156,12 +156,12 @@ module _ (at : ℕ) (waiting bytes d c : List ℕ) where
       )
 
 module _ (may_leave : List ℕ → Type 0) where
-  first_left : (at : ℕ) (bytes : List ℕ) → 0 < length bytes → Follows (Mixed at bytes) may_leave (Left at bytes may_leave)
+  first_left : (at : ℕ) (bytes : List ℕ) → 0 < length bytes → Follows (Mixed at bytes) may_leave (Leaves at bytes may_leave)
   first_left at [] some c may = absurd (omega (arith, some))
   first_left at (byte ∷ more) some c may = may
 
   next_left : (at : ℕ) (waiting bytes : List ℕ) → 0 < length waiting → 0 < length bytes
-      → Follows (Mixed (at + length waiting) bytes) (Left at waiting may_leave) (Left at (waiting ++ bytes) may_leave)
+      → Follows (Mixed (at + length waiting) bytes) (Leaves at waiting may_leave) (Leaves at (waiting ++ bytes) may_leave)
   next_left at [] bytes some more c may = absurd (omega (arith, some))
   next_left at (byte ∷ rest) bytes some more c may =
       let both = split at (byte ∷ rest) bytes may.0 c more may.2 in
@@ -182,13 +182,13 @@ held_torn old start at (byte ∷ more) bytes file joins same some within =
     (subst (λ n. Torn (start + length waiting) (length bytes) (shown n waiting file) (shown start (waiting ++ bytes) file)) is (next_torn start file waiting bytes within (omega arith) some))
 
 pub held_left : (old start at : ℕ) (waiting bytes : List ℕ) (may_leave : List ℕ → Type 0) → start + length waiting ≡ at → (0 < length waiting → start ≡ old) → 0 < length bytes
-    → Follows (Mixed at bytes) (Left old waiting may_leave) (Left start (waiting ++ bytes) may_leave)
-held_left old start at [] bytes may_leave joins same some = subst (λ n. Follows (Mixed n bytes) may_leave (Left start bytes may_leave)) (omega (arith, joins)) (first_left may_leave start bytes some)
+    → Follows (Mixed at bytes) (Leaves old waiting may_leave) (Leaves start (waiting ++ bytes) may_leave)
+held_left old start at [] bytes may_leave joins same some = subst (λ n. Follows (Mixed n bytes) may_leave (Leaves start bytes may_leave)) (omega (arith, joins)) (first_left may_leave start bytes some)
 held_left old start at (byte ∷ more) bytes may_leave joins same some =
     let waiting = byte ∷ more in
     let is : start ≡ old = same (omega arith) in
-    subst (λ n. Follows (Mixed n bytes) (Left old waiting may_leave) (Left start (waiting ++ bytes) may_leave)) joins
-    (subst (λ n. Follows (Mixed (start + length waiting) bytes) (Left n waiting may_leave) (Left start (waiting ++ bytes) may_leave)) is (next_left may_leave start waiting bytes (omega arith) some))
+    subst (λ n. Follows (Mixed n bytes) (Leaves old waiting may_leave) (Leaves start (waiting ++ bytes) may_leave)) joins
+    (subst (λ n. Follows (Mixed (start + length waiting) bytes) (Leaves n waiting may_leave) (Leaves start (waiting ++ bytes) may_leave)) is (next_left may_leave start waiting bytes (omega arith) some))
 
 -- where all that waits begins, once bytes at `at` join n others
 pub joined : (old known at n : ℕ) → (0 < n → at ≡ old + n) → (n ≡ 0 → at ≤ known) → (0 < n → old ≤ known) → (at - n + n ≡ at) × (0 < n → at - n ≡ old) × (at - n ≤ known)

@@ -3,7 +3,7 @@ use Rattle.std.specs.Prelude.{◌≡◌, ◌&&◌, ℕ, Bool, not, List}
 use Rattle.sqlite_disk.specs.declared.Disk.{Ghosts}
 use Rattle.sqlite_disk.specs.declared.tally.Tally.{Tally as Counts}
 use Rattle.iso_gather.specs.declared.gathered.GatheredDisk.{GatheredDisk}
-use Rattle.iso_gather.specs.Shown.{shown, Left}
+use Rattle.iso_gather.specs.Shown.{shown, Leaves}
 
 module _ {D : Type 0} {g : Ghosts D} where
   -- the disk that it hands writes to
@@ -16,7 +16,7 @@ module _ {D : Type 0} {g : Ghosts D} where
 
   -- its member `may_leave`
   abbrev pub left_of : GatheredDisk D g → List ℕ → Type 0
-  left_of it = Left it.at it.waiting.items (g.may_leave it.inner)
+  left_of it = Leaves it.at it.waiting.items (g.may_leave it.inner)
 
   -- its member `is_usable`: no sync has failed, nor the writing of what waited for it
   abbrev pub usable_of : GatheredDisk D g → Bool

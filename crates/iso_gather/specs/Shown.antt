@@ -9,6 +9,6 @@ shown at [] file = file
 shown at (byte ∷ more) file = overlaid file at (byte ∷ more)
 
 -- what a crash leaves: what it leaves of the file below, with each byte that waits come over it or not
-abbrev pub Left : ℕ → List ℕ → (List ℕ → Type 0) → List ℕ → Type 0
-Left at [] may_leave c = may_leave c
-Left at (byte ∷ more) may_leave c = (d : List ℕ) × may_leave d × Mixed at (byte ∷ more) d c
+abbrev pub Leaves : ℕ → List ℕ → (List ℕ → Type 0) → List ℕ → Type 0
+Leaves at [] may_leave c = may_leave c
+Leaves at (byte ∷ more) may_leave c = (d : List ℕ) × may_leave d × Mixed at (byte ∷ more) d c

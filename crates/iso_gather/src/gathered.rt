@@ -3,7 +3,7 @@ ghost use Rattle.std.specs.Prelude.{◌≡◌, ◌↔◌, ◌≤◌, ◌<◌, �
 ghost use Rattle.sqlite_disk.specs.Disk.{Holds, Torn, Mixed, Cut, Follows, Only, CountsFault};
 ghost use Rattle.sqlite_disk.specs.Events.{raised};
 ghost use Rattle.sqlite_disk.specs.Refusal.{finds_no_room};
-ghost use Rattle.iso_gather.specs.Shown.{shown, Left};
+ghost use Rattle.iso_gather.specs.Shown.{shown, Leaves};
 
 use sqlite_disk::{Disk, Tally, is_no_room};
 use std::alloc::Global;

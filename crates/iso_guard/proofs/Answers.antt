@@ -15,7 +15,7 @@ use Rattle.iso_order.specs.Response.{response}
 use Rattle.iso_issuer.specs.Books.{Books}
 use Rattle.iso_host.specs.Asking.{message_in}
 use Rattle.iso_host.specs.Entering.{books_after_bodies, StaysWithout}
-use Rattle.iso_host.specs.Hosting.{GrowsBy}
+use Rattle.iso_host.specs.Hosting.{GrowsBy, replying}
 use Rattle.iso_host.specs.Output.{IsFramed, IsAnswerTo, response_to}
 use Rattle.iso_guard.specs.Guarding.{Guard}
 use Rattle.iso_guard.specs.Entering.{entering_of, entering_unless, foreign_to, EntersOrNot}
@@ -79,7 +79,7 @@ foreign_behind t h books key before plain old new m message is spelled fits grow
 
 module _ (g : Guard) (old new : Books) (body : List ℕ) where
   -- one that ends before its message
-  pub short_body : (waiting : List ℕ) → StaysWithout old → nat_lt (length body) g.skip ≡ true → AnswersGuarded g old old body waiting waiting
+  pub short_body : (waiting : List ℕ) → StaysWithout old → nat_lt (length body) g.skip ≡ true → AnswersGuarded g (replying old waiting) (replying old waiting) body
   unfolding entering_of IsGuardedAnswer
   short_body waiting without is =
       let message = drop g.skip body in (
@@ -96,7 +96,7 @@ module _ (g : Guard) (old new : Books) (body : List ℕ) where
   pub whole_body : (out grown before message : List ℕ) → nat_lt (length body) g.skip ≡ false → before ≡ take g.skip body → message ≡ drop g.skip body
       → new ≡ books_after_bodies g.table old (entering_unless (foreign_to g message) message)
       → GrowsBy (IsFramedBehind g.table g.header before (response_unless old (foreign_to g message) (message_in g.table message))) out grown
-      → AnswersGuarded g old new body out grown
+      → AnswersGuarded g (replying old out) (replying new grown) body
   unfolding entering_of IsGuardedAnswer
   whole_body out grown before message is front back enters grows =
       let behind = drop g.skip body in

@@ -7,6 +7,9 @@ use Rattle.iso_table.specs.Layout.{Layout}
 use Rattle.iso_wire.specs.declared.header.Header.{Header}
 use Rattle.iso_wire.specs.Framing.{frame_of, frames_of, AllFit, Begins, largest}
 use Rattle.iso_issuer.specs.Books.{Books}
+use Rattle.iso_peers.specs.Turn.{books_change}
+use Rattle.iso_host.specs.Peers.{one_peer}
+use Rattle.iso_host.specs.Hosting.{replying}
 use Rattle.iso_host.specs.Entering.{books_after_bodies, BodiesGoOn, StaysWithout}
 use Rattle.iso_host.specs.declared.peer.PeerFault.{PeerFault}
 use Rattle.iso_host.specs.declared.peer.PeerFault.TheVariants.{BadHeader, Memory}
@@ -113,7 +116,7 @@ module _ (g : Guard) (before : Books) (bytes old : List ℕ) where
 
   -- one frame more
   pub next_frame : (mid after : Books) (used size : ℕ) (body between new : List ℕ) → BodiesGoOn → FramesSoFar g before mid bytes old between used
-      → Begins g.header (drop used bytes) body size → AnswersGuarded g mid after body between new
+      → Begins g.header (drop used bytes) body size → AnswersGuarded g (replying mid between) (replying after new) body
       → FramesSoFar g before after bytes old new (used + size)
   next_frame mid after used size body between new law so begins answered =
       let behind = drop_again used size bytes in
@@ -133,7 +136,7 @@ module _ (g : Guard) (before : Books) (bytes old : List ℕ) where
 
   -- it stops there
   pub stops_there : (mid after : Books) (used : ℕ) (new last : List ℕ) (why : Option PeerFault) → FramesSoFar g before mid bytes old new used → last ≡ new
-      → StopsGuarded g (drop used bytes) [] mid after why → TakesFrames g before after bytes old last (record { used = used; stopped = why })
+      → StopsGuarded g (drop used bytes) [] (books_change mid after) why → TakesFrames g (replying before old) (replying after last) bytes (record { used = used; stopped = why })
   stops_there mid after used new last why so same stops = record {
     within = so.within;
     bodies = so.bodies;
@@ -142,12 +145,12 @@ module _ (g : Guard) (before : Books) (bytes old : List ℕ) where
     answers = so.answers;
     output = so.output;
     waits = same ∙ so.waits;
-    stops = subst (λ (b : Books). StopsGuarded g (drop used bytes) [] b after why) so.books stops;
+    stops = subst (λ (b : Books). StopsGuarded g (drop used bytes) [] (books_change b after) why) so.books stops;
   }
 
   -- memory ran out at a frame
   pub no_memory_there : (mid after : Books) (used size : ℕ) (body new last : List ℕ) → FramesSoFar g before mid bytes old new used → last ≡ new
-      → Begins g.header (drop used bytes) body size → EntersOrNot g mid after body → TakesFrames g before after bytes old last (record { used = used; stopped = Some Memory })
+      → Begins g.header (drop used bytes) body size → EntersOrNot g mid after body → TakesFrames g (replying before old) (replying after last) bytes (record { used = used; stopped = Some Memory })
   no_memory_there mid after used size body new last so same begins enters =
       stops_there mid after used new last (Some Memory) so same (inr (body, drop size (drop used bytes), begins.whole, begins.fits, enters))
 
@@ -156,7 +159,7 @@ module _ (g : Guard) (before : Books) (bytes old : List ℕ) where
 module _ (g : Guard) (held waiting bytes : List ℕ) (before after : Books) where
   -- the bytes can't be held
   pub holds_nothing : StaysWithout before → after ≡ before
-      → TakesGuarded (record { guard = g; held = held; waiting = waiting }) (record { guard = g; held = held; waiting = waiting }) before after bytes (record { used = 0; stopped = Some Memory })
+      → TakesGuarded g (one_peer held before waiting) (one_peer held after waiting) bytes (record { used = 0; stopped = Some Memory })
   holds_nothing without same = record {
     within = omega arith;
     bodies = [];
@@ -168,17 +171,17 @@ module _ (g : Guard) (held waiting bytes : List ℕ) (before after : Books) wher
     stops = inl (same ∙ sym (without g.table));
   }
 
-  behind_all : (rest : List ℕ) (mid : Books) (why : Option PeerFault) → StopsGuarded g rest [] mid after why → StopsGuarded g rest (drop (length bytes) bytes) mid after why
+  behind_all : (rest : List ℕ) (mid : Books) (why : Option PeerFault) → StopsGuarded g rest [] (books_change mid after) why → StopsGuarded g rest (drop (length bytes) bytes) (books_change mid after) why
   behind_all rest mid None stops = (drop-length bytes, stops.1, stops.2)
   behind_all rest mid (Some BadHeader) stops = (drop-length bytes, stops.1, stops.2)
   behind_all rest mid (Some Memory) stops = stops
 
   -- they are held, and the whole frames of all are taken
-  pub holds_all : (now kept grown : List ℕ) (taken : Turned) (size : ℕ) → now ≡ held ++ bytes → kept ≡ drop taken.used now → size ≡ length bytes → TakesFrames g before after now waiting grown taken
-      → TakesGuarded (record { guard = g; held = held; waiting = waiting }) (record { guard = g; held = kept; waiting = grown }) before after bytes
+  pub holds_all : (now kept grown : List ℕ) (taken : Turned) (size : ℕ) → now ≡ held ++ bytes → kept ≡ drop taken.used now → size ≡ length bytes → TakesFrames g (replying before waiting) (replying after grown) now taken
+      → TakesGuarded g (one_peer held before waiting) (one_peer kept after grown) bytes
       (record { used = size; stopped = taken.stopped })
   holds_all now kept grown taken size now_is kept_is size_is took =
-      let all : TakesGuarded (record { guard = g; held = held; waiting = waiting }) (record { guard = g; held = kept; waiting = grown }) before after bytes
+      let all : TakesGuarded g (one_peer held before waiting) (one_peer kept after grown) bytes
       (record { used = length bytes; stopped = taken.stopped }) = record {
         within = omega arith;
         bodies = took.bodies;
@@ -188,22 +191,22 @@ module _ (g : Guard) (held waiting bytes : List ℕ) (before after : Books) wher
         output = took.output;
         waits = took.waits;
         stops = behind_all kept (books_after_guarded g before took.bodies) taken.stopped
-            (subst (λ (l : List ℕ). StopsGuarded g l [] (books_after_guarded g before took.bodies) after taken.stopped) (sym kept_is) took.stops);
+            (subst (λ (l : List ℕ). StopsGuarded g l [] (books_change (books_after_guarded g before took.bodies) after) taken.stopped) (sym kept_is) took.stops);
       } in
-      subst (λ (n : ℕ). TakesGuarded (record { guard = g; held = held; waiting = waiting }) (record { guard = g; held = kept; waiting = grown }) before after bytes
+      subst (λ (n : ℕ). TakesGuarded g (one_peer held before waiting) (one_peer kept after grown) bytes
       (record { used = n; stopped = taken.stopped })) (sym size_is) all
 
 -- ---- what enters
 
 stops_enter : (g : Guard) (before after : Books) (bodies : List (List ℕ)) (held rest : List ℕ) (why : Option PeerFault) → BodiesGoOn
-    → StopsGuarded g held rest (books_after_guarded g before bodies) after why → EntersAllowed g.acquirers g.table before after
+    → StopsGuarded g held rest (books_change (books_after_guarded g before bodies) after) why → EntersAllowed g.acquirers g.table before after
 stops_enter g before after bodies held rest None law stops = allowed_enter g before after bodies stops.2
 stops_enter g before after bodies held rest (Some BadHeader) law stops = allowed_enter g before after bodies stops.2
 stops_enter g before after bodies held rest (Some Memory) law (inl same) = allowed_enter g before after bodies same
 stops_enter g before after bodies held rest (Some Memory) law (inr wants) = one_more_or_not g before after bodies wants.0 law wants.4
 
 -- only orders that may be spoken for
-pub frames_enter : (g : Guard) (before after : Books) (bytes old new : List ℕ) (taken : Turned) → BodiesGoOn → TakesFrames g before after bytes old new taken
+pub frames_enter : (g : Guard) (before after : Books) (bytes old new : List ℕ) (taken : Turned) → BodiesGoOn → TakesFrames g (replying before old) (replying after new) bytes taken
     → EntersAllowed g.acquirers g.table before after
 frames_enter g before after bytes old new taken law took = stops_enter g before after took.bodies (drop taken.used bytes) [] taken.stopped law took.stops
 

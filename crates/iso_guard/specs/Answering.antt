@@ -6,24 +6,25 @@ use Rattle.iso_wire.specs.Contents.{Contents}
 use Rattle.iso_wire.specs.Framing.{frame_of, largest}
 use Rattle.iso_wire.specs.Spelling.{PlainSpelling}
 use Rattle.iso_order.specs.declared.key.TxKey.{TxKey}
+use Rattle.iso_order.specs.Codes.{invalid_transaction}
 use Rattle.iso_order.specs.Outcome.{code_alone}
 use Rattle.iso_order.specs.Response.{response}
 use Rattle.iso_issuer.specs.Books.{Books}
 use Rattle.iso_host.specs.Asking.{message_in}
 use Rattle.iso_host.specs.Entering.{books_after_bodies}
-use Rattle.iso_host.specs.Hosting.{GrowsBy}
+use Rattle.iso_host.specs.Hosting.{GrowsBy, Replying}
 use Rattle.iso_host.specs.Output.{response_to}
 use Rattle.iso_guard.specs.Guarding.{Guard}
 use Rattle.iso_guard.specs.Entering.{foreign_to, entering_of, books_after_guarded}
 
 -- ---- the response to a message
 
--- the host's response to a message at these books; code 12 to one that asks the order of this key, which may not be spoken
+-- the host's response to a message at these books; that of an invalid transaction to one that asks the order of this key, which may not be spoken
 -- for
 abbrev pub response_unless : Books → Option TxKey → Option Contents → Option Contents
 response_unless books None message = response_to books message
 response_unless books (Some key) None = None
-response_unless books (Some key) (Some m) = Some (response m (code_alone 12))
+response_unless books (Some key) (Some m) = Some (response m (code_alone invalid_transaction))
 
 -- the response to the message of a body; none to a body that ends before its message
 abbrev pub response_behind : Guard → Books → List ℕ → Option Contents
@@ -47,10 +48,10 @@ IsGuardedAnswer g books body bytes =
     IsFramedBehind g.table g.header (take g.skip body) (response_behind g books body) bytes
 
 -- a body entered, and the bytes grew by its answer
-abbrev pub AnswersGuarded : Guard → Books → Books → List ℕ → List ℕ → List ℕ → Type 0
-AnswersGuarded g old new body out grown =
-    (new ≡ books_after_bodies g.table old (entering_of g body))
-    × GrowsBy (IsGuardedAnswer g old body) out grown
+abbrev pub AnswersGuarded : Guard → Replying → Replying → List ℕ → Type 0
+AnswersGuarded g before after body =
+    (after.books ≡ books_after_bodies g.table before.books (entering_of g body))
+    × GrowsBy (IsGuardedAnswer g before.books body) before.out after.out
 
 -- ---- of bodies, one after the other
 

@@ -34,7 +34,7 @@ guard_of link terms = record {
 }
 
 -- a peer of a guarded line: the line, the bytes of its frame that isn't whole, and those of its answers that aren't written
-pub record Guarded : Type 0 where
+pub record GuardedState : Type 0 where
   pub guard : Guard
   pub held : List ℕ
   pub waiting : List ℕ

@@ -3,13 +3,14 @@ ghost use Rattle.std.specs.Prelude.{◌≡◌, ◌≤◌, ◌⊎◌, ◌++◌, [
 ghost use Rattle.iso_parts.specs.Mti.{is_answered};
 ghost use Rattle.iso_wire.specs.Framing.{frame_of, largest};
 ghost use Rattle.iso_wire.specs.Spelling.{PlainSpelling};
+ghost use Rattle.iso_order.specs.Codes.{invalid_transaction};
 ghost use Rattle.iso_order.specs.Fields.{function};
 ghost use Rattle.iso_order.specs.Outcome.{code_alone};
 ghost use Rattle.iso_order.specs.Response.{response};
 ghost use Rattle.iso_order.specs.Verdict.{verdict};
 ghost use Rattle.iso_host.specs.Asking.{asked_of, message_in};
 ghost use Rattle.iso_host.specs.Entering.{books_after_bodies};
-ghost use Rattle.iso_host.specs.Hosting.{GrowsBy};
+ghost use Rattle.iso_host.specs.Hosting.{GrowsBy, replying};
 ghost use Rattle.iso_host.specs.Output.{response_to};
 ghost use Rattle.iso_guard.specs.Guarding.{foreign_of, guard_of, IsRead};
 ghost use Rattle.iso_guard.specs.Entering.{entering_unless, EntersOrNot};
@@ -19,6 +20,7 @@ use crate::came::Came;
 use iso_host::laws::one_journal;
 use iso_host::{BodyFault, Handled, Host, Link};
 use iso_links::Terms;
+use iso_order::codes::INVALID_TRANSACTION;
 use iso_order::{Answer, NoMemory, TxKey, Verdict, order_of, respond_into};
 use iso_parts::Mti;
 use iso_wire::laws::{are_bytes, reads_spellings};
@@ -34,9 +36,6 @@ const NO_TYPE: Mti = Mti {
     function: 0,
     origin: 0,
 };
-
-/// The response code to an order of another acquirer.
-const FOREIGN: u8 = 12;
 
 /// A body that ends inside the bytes that stand before its message.
 const NO_MESSAGE: BodyFault = BodyFault::Stops(UnpackFault {
@@ -132,9 +131,13 @@ fn make_foreign(link: &Link, rooms: &mut Rooms) -> Result<(), NoMemory>
     requires asks { is_answered (function rooms.old.request) ≡ true }
     ensures made { OnOk result
         (PlainSpelling link.now.table
-        (response rooms.old.request (code_alone 12)) rooms.new.answer.items) }
+        (response rooms.old.request (code_alone invalid_transaction)) rooms.new.answer.items) }
 {
-    respond_into(&rooms.request, &Answer::only(FOREIGN), &mut rooms.response)?;
+    respond_into(
+        &rooms.request,
+        &Answer::only(INVALID_TRANSACTION),
+        &mut rooms.response,
+    )?;
     rooms.answer.clear();
     match append_message(link.table().table(), &rooms.response, &mut rooms.answer) {
         Ok(()) => Ok(()),
@@ -249,8 +252,8 @@ pub(crate) fn answer_guarded(
     waiting: &mut Vec<u8>,
 ) -> Result<Came, NoMemory>
     ensures answered { OnOk result
-        (AnswersGuarded (guard_of link.now terms.now) host.old host.new body.now
-        waiting.old.items waiting.new.items) }
+        (AnswersGuarded (guard_of link.now terms.now) (replying host.old waiting.old.items)
+        (replying host.new waiting.new.items) body.now) }
     // Without memory the books are as they were, or its message is entered.
     ensures memory { OnErr result
         (EntersOrNot (guard_of link.now terms.now) host.old host.new body.now) }

@@ -2,7 +2,7 @@
 ghost use Rattle.std.specs.Prelude.{◌≡◌, ◌↔◌, ◌≤◌, [], true, false, length, drop, IfOk, OnOk, OnErr, IfSome, IsSome};
 ghost use Rattle.iso_peers.specs.Host.{IsInStep, IsKept};
 ghost use Rattle.iso_guard.specs.Guarding.{guard_of, EntersAllowed};
-ghost use Rattle.iso_guard.specs.Taking.{TakesGuarded};
+ghost use Rattle.iso_guard.specs.Taking.{TakesGuarded, guarded_at};
 
 use crate::came::Noting;
 use crate::guard::Rooms;
@@ -27,9 +27,9 @@ pub struct GuardedPeer<'l> {
 }
 
 impl<'l> Model for GuardedPeer<'l> {
-    ghost use Rattle.iso_guard.specs.Guarding.{Guarded, guard_of};
+    ghost use Rattle.iso_guard.specs.Guarding.{GuardedState, guard_of};
 
-    ghost Value = { Guarded };
+    ghost Value = { GuardedState };
 
     ghost view = { λ p. record {
       guard = guard_of p.link.now p.terms.now;
@@ -77,8 +77,8 @@ impl<'l> GuardedPeer<'l> {
     ) -> Result<Turned, LogFailed>
         // At `Ok` the messages of all whole frames enter the books, but for those that may not be
         // spoken for, and the answers wait in the order of the frames.
-        ensures took { IfOk result
-            (TakesGuarded self.old self.new host.old.host host.new.host bytes.now) }
+        ensures took { IfOk result (TakesGuarded self.old.guard
+            (guarded_at self.old host.old.host) (guarded_at self.new host.new.host) bytes.now) }
         // Only orders of acquirers that may be spoken for enter the books.
         ensures allowed { EntersAllowed self.old.guard.acquirers self.old.guard.table
             host.old.host host.new.host }

@@ -1,5 +1,7 @@
 //! What a peer of a guarded line sends, frame after frame.
 ghost use Rattle.std.specs.Prelude.{◌≡◌, ◌≤◌, length, drop};
+ghost use Rattle.iso_host.specs.Hosting.{replying};
+ghost use Rattle.iso_host.specs.Peers.{one_peer};
 ghost use Rattle.iso_guard.specs.Guarding.{guard_of, EntersAllowed};
 ghost use Rattle.iso_guard.specs.Taking.{TakesFrames, TakesGuarded};
 
@@ -31,8 +33,9 @@ fn take_frames<N: Noting>(
     noting: &mut N,
     waiting: &mut Vec<u8>,
 ) -> Turned
-    ensures took { TakesFrames (guard_of link.now terms.now) host.old host.new bytes.now
-        waiting.old.items waiting.new.items result }
+    ensures took { TakesFrames (guard_of link.now terms.now)
+        (replying host.old waiting.old.items) (replying host.new waiting.new.items)
+        bytes.now result }
 {
     // the law that bodies have one journal, for the prover
     one_journal(host.issuer());
@@ -52,15 +55,13 @@ fn take_frames<N: Noting>(
                 };
             }
             Ok(Framed::Got { body, used: size }) => {
-                match answer_guarded(host, link, terms, body, rooms, waiting) {
-                    Err(_) => {
-                        return Turned {
-                            used,
-                            stopped: Some(PeerFault::Memory),
-                        };
-                    }
-                    Ok(came) => noting.note(link, body.get(terms.skip..), came),
-                }
+                let Ok(came) = answer_guarded(host, link, terms, body, rooms, waiting) else {
+                    return Turned {
+                        used,
+                        stopped: Some(PeerFault::Memory),
+                    };
+                };
+                noting.note(link, body.get(terms.skip..), came);
                 used += size;
             }
         }
@@ -78,18 +79,9 @@ pub(crate) fn take_held<N: Noting>(
     noting: &mut N,
     waiting: &mut Vec<u8>,
 ) -> Turned
-    ensures took { TakesGuarded
-        (record {
-          guard = guard_of link.now terms.now;
-          held = held.old.items;
-          waiting = waiting.old.items;
-        })
-        (record {
-          guard = guard_of link.now terms.now;
-          held = held.new.items;
-          waiting = waiting.new.items;
-        })
-        host.old host.new bytes.now result }
+    ensures took { TakesGuarded (guard_of link.now terms.now)
+        (one_peer held.old.items host.old waiting.old.items)
+        (one_peer held.new.items host.new waiting.new.items) bytes.now result }
     // Only orders of acquirers that may be spoken for enter the books.
     ensures allowed { EntersAllowed terms.now.acquirers.items link.now.table host.old host.new }
 {

@@ -17,7 +17,8 @@ use Rattle.iso_issuer.specs.Books.{Books}
 use Rattle.iso_issuer.specs.Laws.{books_after}
 use Rattle.iso_host.specs.Asking.{asked_of, message_in, orders_in, whole_by}
 use Rattle.iso_host.specs.Output.{IsAnswerTo, IsFramed, outcome_for, outcome_of, response_with}
-use Rattle.iso_host.specs.Hosting.{AnswersMessage, Answers, IsBodyFault, IsHandled, IsHandledBy}
+use Rattle.iso_host.specs.Hosting.{AnswersMessage, Answers, IsBodyFault, IsHandled, IsHandledBy, replying}
+use Rattle.iso_host.specs.Links.{agreed}
 use Rattle.iso_host.specs.Handling.{EntersOrKeeps}
 use Rattle.iso_host.specs.declared.handled.BodyFault.{BodyFault}
 use Rattle.iso_host.specs.declared.handled.BodyFault.TheVariants.{Stops, Behind}
@@ -25,14 +26,14 @@ use Rattle.iso_host.specs.declared.handled.Handled.{Handled}
 use Rattle.iso_host.specs.declared.handled.Handled.TheVariants as handled
 
 -- where there is no message
-pub answers_none : (t : Layout) (h : Header) (books : Books) (message : Option Contents) (out : List ℕ) → message ≡ None → books_after books [] ≡ books → AnswersMessage t h books books message out out
+pub answers_none : (t : Layout) (h : Header) (books : Books) (message : Option Contents) (out : List ℕ) → message ≡ None → books_after books [] ≡ books → AnswersMessage (agreed t h) (replying books out) (replying books out) message
 unfolding IsAnswerTo
 answers_none t h books message out none kept =
-    subst (λ (m : Option Contents). AnswersMessage t h books books m out out) (sym none) (sym kept, ([], refl, sym (append-nil out)))
+    subst (AnswersMessage (agreed t h) (replying books out) (replying books out)) (sym none) (sym kept, ([], refl, sym (append-nil out)))
 
 -- the message that the whole body is
-pub answers_some : (t : Layout) (h : Header) (old new : Books) (body : List ℕ) (m : Contents) (out grown : List ℕ) → message_in t body ≡ Some m → AnswersMessage t h old new (Some m) out grown → Answers t h old new body out grown
-answers_some t h old new body m out grown is answers = subst (λ (o : Option Contents). AnswersMessage t h old new o out grown) (sym is) answers
+pub answers_some : (t : Layout) (h : Header) (old new : Books) (body : List ℕ) (m : Contents) (out grown : List ℕ) → message_in t body ≡ Some m → AnswersMessage (agreed t h) (replying old out) (replying new grown) (Some m) → Answers (agreed t h) (replying old out) (replying new grown) body
+answers_some t h old new body m out grown is answers = subst (AnswersMessage (agreed t h) (replying old out) (replying new grown)) (sym is) answers
 
 pub enters_some : (t : Layout) (h : Header) (old new : Books) (body : List ℕ) (m : Contents) → message_in t body ≡ Some m → EntersOrKeeps t h old new (Some m) → EntersOrKeeps t h old new (message_in t body)
 enters_some t h old new body m is enters = subst (EntersOrKeeps t h old new) (sym is) enters
@@ -60,7 +61,7 @@ no_message t body (Behind end) ((m, is), before) = ap (whole_by (length body)) i
 
 -- a message that gets no answer
 pub answers_nothing : (t : Layout) (h : Header) (old new : Books) (m : Contents) (answer : Option Outcome) (out : List ℕ) → answer ≡ outcome_of old (verdict m) → answer ≡ None
-    → new ≡ books_after old (orders_in (Some (verdict m))) → AnswersMessage t h old new (Some m) out out
+    → new ≡ books_after old (orders_in (Some (verdict m))) → AnswersMessage (agreed t h) (replying old out) (replying new out) (Some m)
 unfolding IsAnswerTo
 answers_nothing t h old new m answer out same none entered = (
   entered,

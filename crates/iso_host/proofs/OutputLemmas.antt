@@ -9,6 +9,7 @@ use Rattle.iso_wire.specs.OneSpelling.{PlainOnce}
 use Rattle.iso_issuer.specs.Books.{Books}
 use Rattle.iso_host.specs.Entering.{books_after_bodies}
 use Rattle.iso_host.specs.Asking.{message_in}
+use Rattle.iso_host.specs.Links.{agreed}
 use Rattle.iso_host.specs.Output.{response_to, IsFramed, IsAnswer, IsAnswerTo, IsOutputFrom, IsOutput, OutputOnce}
 use Rattle.iso_host.specs.Serving.{front, IsPrefix}
 
@@ -32,7 +33,7 @@ front_more bodies body =
 -- ---- the output
 
 output_from_more : (t : Layout) (h : Header) (books : Books) (earlier bodies : List (List ℕ)) (body out first : List ℕ)
-    → IsOutputFrom t h books earlier bodies out → IsAnswer t h (books_after_bodies t books (earlier ++ bodies)) body first → IsOutputFrom t h books earlier (bodies ++ body ∷ []) (out ++ first)
+    → IsOutputFrom (agreed t h) books earlier bodies out → IsAnswer t h (books_after_bodies t books (earlier ++ bodies)) body first → IsOutputFrom (agreed t h) books earlier (bodies ++ body ∷ []) (out ++ first)
 output_from_more t h books earlier [] body out first is answer = (
   first,
   [],
@@ -59,7 +60,7 @@ unfolding IsOutput
 output_more t h books bodies body out first is answer = output_from_more t h books [] bodies body out first is answer
 
 output_from_take : (t : Layout) (h : Header) (books : Books) (n : ℕ) (earlier bodies : List (List ℕ)) (out : List ℕ)
-    → IsOutputFrom t h books earlier bodies out → (less : List ℕ) × IsOutputFrom t h books earlier (take n bodies) less × IsPrefix less out
+    → IsOutputFrom (agreed t h) books earlier bodies out → (less : List ℕ) × IsOutputFrom (agreed t h) books earlier (take n bodies) less × IsPrefix less out
 output_from_take t h books zero earlier bodies out is = ([], refl, (out, refl))
 output_from_take t h books (suc n) earlier [] out is = ([], refl, (out, refl))
 output_from_take t h books (suc n) earlier (x ∷ xs) out is =
@@ -84,7 +85,7 @@ answer_once : (t : Layout) (h : Header) (books : Books) (body a b : List ℕ) �
 unfolding IsAnswerTo
 answer_once t h books body a b once one other = framed_once t h (response_to books (message_in t body)) a b once one other
 
-output_from_once : (t : Layout) (h : Header) (books : Books) (earlier bodies : List (List ℕ)) (a b : List ℕ) → PlainOnce → IsOutputFrom t h books earlier bodies a → IsOutputFrom t h books earlier bodies b → a ≡ b
+output_from_once : (t : Layout) (h : Header) (books : Books) (earlier bodies : List (List ℕ)) (a b : List ℕ) → PlainOnce → IsOutputFrom (agreed t h) books earlier bodies a → IsOutputFrom (agreed t h) books earlier bodies b → a ≡ b
 output_from_once t h books earlier [] a b once one other = one ∙ sym other
 output_from_once t h books earlier (x ∷ xs) a b once one other =
     one.4

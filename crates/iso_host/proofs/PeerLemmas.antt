@@ -10,8 +10,9 @@ use Rattle.iso_issuer.specs.Books.{Books}
 use Rattle.iso_host.specs.Asking.{message_in}
 use Rattle.iso_host.specs.Beginning.{head_of, held_of, IsBegun, IsInBody, IsInHeader}
 use Rattle.iso_host.specs.Handling.{EntersOrKeeps}
-use Rattle.iso_host.specs.Hosting.{Answers, IsHandled}
-use Rattle.iso_host.specs.Peers.{Refuses, Takes}
+use Rattle.iso_host.specs.Hosting.{Answers, IsHandled, replying}
+use Rattle.iso_host.specs.Links.{agreed}
+use Rattle.iso_host.specs.Peers.{Refuses, Takes, one_peer, unfinished}
 use Rattle.iso_host.specs.declared.handled.Handled.{Handled}
 use Rattle.iso_host.specs.declared.peer.PeerFault.TheVariants.{Memory}
 use Rattle.iso_host.specs.declared.taking.Begun.{Begun}
@@ -64,8 +65,8 @@ module _ (h : Header) (bytes : List ℕ) (n : ℕ) (header : take (header_size h
       take-add (header_size h) n bytes ∙ ap (λ (l : List ℕ). l ++ body) (header ∙ ap (header_of h) (sym body_size))
 
   pub takes_whole : (t : Layout) (held kept : List ℕ) (old new : Books) (out grown : List ℕ) (used : ℕ) (handled : Handled) → held ≡ [] → kept ≡ [] → used ≡ header_size h + n
-      → Answers t h old new (take n (drop (header_size h) bytes)) out grown → IsHandled t old (take n (drop (header_size h) bytes)) handled
-      → Takes t h held kept old new bytes out grown (record { used = used; handled = Some handled })
+      → Answers (agreed t h) (replying old out) (replying new grown) (take n (drop (header_size h) bytes)) → IsHandled t old (take n (drop (header_size h) bytes)) handled
+      → Takes (agreed t h) (one_peer held old out) (one_peer kept new grown) bytes (record { used = used; handled = Some handled })
   takes_whole t held kept old new out grown used handled none none_kept all answers tells =
       let body = take n (drop (header_size h) bytes) in
       let front : held ++ take used bytes ≡ frame_of h body = ap (λ (l : List ℕ). l ++ take used bytes) none ∙ ap (λ (k : ℕ). take k bytes) all ∙ whole_frame in
@@ -75,7 +76,7 @@ module _ (h : Header) (bytes : List ℕ) (n : ℕ) (header : take (header_size h
         some = λ _ e. omega (arith, e, all, size_least h);
       }
 
-  pub refuses_front : (t : Layout) (held : List ℕ) (old new : Books) → held ≡ [] → EntersOrKeeps t h old new (message_in t (take n (drop (header_size h) bytes))) → Refuses t h held old new bytes Memory
+  pub refuses_front : (t : Layout) (held : List ℕ) (old new : Books) → held ≡ [] → EntersOrKeeps t h old new (message_in t (take n (drop (header_size h) bytes))) → Refuses (unfinished (agreed t h) held) old new bytes Memory
   refuses_front t held old new none (inl kept) = inl kept
   refuses_front t held old new none (inr enters) =
       let body = take n (drop (header_size h) bytes) in
@@ -86,7 +87,7 @@ module _ (h : Header) (bytes : List ℕ) (n : ℕ) (header : take (header_size h
 -- ---- a frame that ends behind held bytes
 
 pub refuses_behind : (t : Layout) (h : Header) (held : List ℕ) (old new : Books) (bytes body more : List ℕ) → held ++ bytes ≡ frame_of h body ++ more → length body ≤ largest h → EntersOrKeeps t h old new (message_in t body)
-    → Refuses t h held old new bytes Memory
+    → Refuses (unfinished (agreed t h) held) old new bytes Memory
 refuses_behind t h held old new bytes body more is fits (inl kept) = inl kept
 refuses_behind t h held old new bytes body more is fits (inr enters) = inr (body, more, is, fits, enters)
 
@@ -119,7 +120,7 @@ bad_behind stays h held head bytes byte front first bad =
 
 -- bytes that end a body behind its first ones
 pub refuses_body : (t : Layout) (h : Header) (b : Begun) (part : List ℕ) (old new : Books) (bytes : List ℕ) → IsInBody h b part → b.left ≤ length bytes → EntersOrKeeps t h old new (message_in t (part ++ take b.left bytes))
-    → Refuses t h (held_of b part) old new bytes Memory
+    → Refuses (unfinished (agreed t h) (held_of b part)) old new bytes Memory
 refuses_body t h b part old new bytes inside room enters =
     let piece = take b.left bytes in
     let rest = drop b.left bytes in
@@ -162,7 +163,7 @@ between h b part n begun same = (
 
 -- ---- no byte
 
-pub takes_none : (t : Layout) (h : Header) (b : Begun) (books : Books) (bytes out : List ℕ) → IsInHeader h b [] → bytes ≡ [] → Takes t h (head_of b) (head_of b) books books bytes out out (record { used = 0; handled = None })
+pub takes_none : (t : Layout) (h : Header) (b : Begun) (books : Books) (bytes out : List ℕ) → IsInHeader h b [] → bytes ≡ [] → Takes (agreed t h) (one_peer (head_of b) books out) (one_peer (head_of b) books out) bytes (record { used = 0; handled = None })
 takes_none t h b books bytes out header none = record {
   within = omega arith;
   piece = (sym (append-nil (head_of b)), short_needs h (head_of b) (omega (arith, header.short, length-take b.count b.head)), refl, refl);
@@ -175,3 +176,7 @@ not_begun h b part first second none = record {
   outside = λ _. record { none = none; short = omega (arith, first, size_least h) };
   inside = λ more. absurd (omega (arith, second, more));
 }
+
+-- and no byte is held
+pub held_none : (b : Begun) (part : List ℕ) → b.count ≡ 0 → part ≡ [] → held_of b part ≡ []
+held_none b part first none = ap (λ (k : ℕ). take k b.head ++ part) first ∙ none

@@ -14,19 +14,20 @@ use Rattle.iso_issuer.specs.Books.{Books}
 use Rattle.iso_issuer.specs.Laws.{FirstsGoOn, books_after}
 use Rattle.iso_host.proofs.JournalLemmas.{books_more, books_none}
 use Rattle.iso_host.proofs.OutputLemmas.{frames_more, AllFit_more, output_none, output_more, output_front, front_more}
-use Rattle.iso_host.proofs.Running.{Going, Running}
+use Rattle.iso_host.proofs.Running.{AnswersPart, AnswersWhole, Going, Running}
 use Rattle.iso_host.proofs.StreamLemmas.{flushed_more, flushed_so, waits_behind}
 use Rattle.iso_host.specs.Asking.{message_in, asked_of, count_asked, has_answer, is_silent, is_unreadable}
-use Rattle.iso_host.specs.Counts.{Counts}
+use Rattle.iso_host.specs.Counts.{Counts, Stream, Usage, stream, usage}
 use Rattle.iso_host.specs.Entering.{books_after_bodies}
 use Rattle.iso_host.specs.Handling.{books_after_body}
 use Rattle.iso_host.specs.Output.{IsAnswer, IsOutput}
-use Rattle.iso_host.specs.Hosting.{Answers}
-use Rattle.iso_host.specs.NextFrame.{EndsBefore}
-use Rattle.iso_host.specs.Reading.{EndsInside}
-use Rattle.iso_host.specs.Serving.{Served, Leaves, Cut, Reports, IsFlushed, LastWaits, Flushes}
+use Rattle.iso_host.specs.Hosting.{Answers, Replying}
+use Rattle.iso_host.specs.Links.{Agreed}
+use Rattle.iso_host.specs.NextFrame.{EndsBefore, Taking}
+use Rattle.iso_host.specs.Reading.{EndsInside, Reading, to_come}
+use Rattle.iso_host.specs.Serving.{Serves, Leaves, IsCut, Reports, IsFlushed, LastWaits, Flushes, Sending, Standing, sending, standing, standing_of}
 use Rattle.iso_host.specs.Reporting.{ReportsOneMore, count_with}
-use Rattle.iso_host.specs.Answering.{AnswersPart, AnswersWhole, FlushesAll, SpendsOnWrite, WritesPart}
+use Rattle.iso_host.specs.Answering.{FlushesAll, SpendsOnWrite, WritesPart}
 use Rattle.iso_host.specs.Turns.{Spends, TakesTurns}
 use Rattle.iso_host.specs.declared.fault.Report.{Report}
 use Rattle.iso_host.specs.declared.fault.ServeFault.{ServeFault}
@@ -53,211 +54,228 @@ no_byte Binary2 body more fits e = cc
 no_byte Ascii4 body more fits e = cc
 no_byte Bcd2 body more fits e = cc
 
-module _ (t : Layout) (h : Header) (unread held : Option (List ℕ)) (old : Books) where
-  -- nothing is handled yet
-  served_none : books_after old [] ≡ old → (window : List ℕ) → window ≡ [] → Served t h unread (prepend_known window unread) held held old old [] []
-  served_none kept window none = record {
-    read = subst (λ (w : List ℕ). Consumes unread (prepend_known w unread) []) (sym none) (none_waits unread);
-    fit = tt;
-    books = sym (books_none t old kept);
-    bytes = [];
-    output = output_none t h old;
-    answers = Appends-nil held;
+-- nothing is handled yet
+serves_none : (l : Agreed) (start : Sending) (window : List ℕ) → books_after start.books [] ≡ start.books → window ≡ []
+    → Serves l (standing_of start) (standing (prepend_known window start.unread) start.writer.bytes start.books) [] []
+serves_none l start window kept none = record {
+  read = subst (λ (w : List ℕ). Consumes start.unread (prepend_known w start.unread) []) (sym none) (none_waits start.unread);
+  fit = tt;
+  books = sym (books_none l.table start.books kept);
+  bytes = [];
+  output = output_none l.table l.header start.books;
+  answers = Appends-nil start.writer.bytes;
+}
+
+module _ (l : Agreed) (start now : Sending) (bodies : List (List ℕ)) (serves : Serves l (standing_of start) (standing_of now) bodies []) where
+  -- some bytes behind the frames are read, the window's last
+  read_part : (left : Option (List ℕ)) (window part : List ℕ) → Consumes now.unread (prepend_known window left) part → Consumes start.unread left (frames_of l.header bodies ++ (part ++ window))
+  read_part left window part taken =
+      let bytes : ((frames_of l.header bodies ++ []) ++ part) ++ window ≡ frames_of l.header bodies ++ (part ++ window) =
+      append_assoc (frames_of l.header bodies ++ []) part window ∙ append_assoc (frames_of l.header bodies) [] (part ++ window) in
+      subst (Consumes start.unread left) bytes
+      (taken_behind start.unread left ((frames_of l.header bodies ++ []) ++ part) window (Consumes-trans start.unread now.unread (prepend_known window left) _ _ serves.read taken))
+
+  -- all frames are handled, and these bytes are read behind them
+  serves_part : (left : Option (List ℕ)) (window part : List ℕ) → Consumes now.unread (prepend_known window left) part
+      → Serves l (standing_of start) (standing left now.writer.bytes now.books) bodies (part ++ window)
+  serves_part left window part taken = record {
+    read = read_part left window part taken;
+    fit = serves.fit;
+    books = serves.books;
+    bytes = serves.bytes;
+    output = serves.output;
+    answers = serves.answers;
   }
 
-  module _ (go_on : FirstsGoOn) (pending written : Option (List ℕ)) (mid : Books) (bodies : List (List ℕ)) (served : Served t h unread pending held written old mid bodies []) where
+  -- it stops before the next body is handled
+  stops_here : (left : Option (List ℕ)) (window part : List ℕ) → Consumes now.unread (prepend_known window left) part → IsCut l (standing_of start) (standing left now.writer.bytes now.books)
+  stops_here left window part taken =
+      let front = output_front l.table l.header start.books bodies serves.bytes serves.output in (
+        bodies,
+        part ++ window,
+        record {
+          read = read_part left window part taken;
+          fit = serves.fit;
+          books = serves.books;
+          bytes = serves.bytes;
+          answers = serves.answers;
+          less = front.0;
+          less_output = front.1;
+          no_less = front.2;
+          most = serves.bytes;
+          most_output = serves.output;
+          no_more = ([], sym (append-nil serves.bytes));
+        },
+      )
+
+  -- the answer is the next one of the output
+  answer_more : (body answer : List ℕ) → IsAnswer l.table l.header now.books body answer → IsAnswer l.table l.header (books_after_bodies l.table start.books bodies) body answer
+  answer_more body answer is = subst (λ (b : Books). IsAnswer l.table l.header b body answer) serves.books is
+
+  module _ (go_on : FirstsGoOn) where
     -- the journal goes on by the body's order
-    entered_more : (new : Books) (body : List ℕ) → new ≡ books_after_body t mid body → new ≡ books_after_bodies t old (bodies ++ body ∷ [])
-    entered_more new body enters = enters ∙ ap (λ (b : Books). books_after_body t b body) served.books ∙ sym (books_more go_on t old bodies body)
+    entered_more : (new : Books) (body : List ℕ) → new ≡ books_after_body l.table now.books body → new ≡ books_after_bodies l.table start.books (bodies ++ body ∷ [])
+    entered_more new body enters = enters ∙ ap (λ (b : Books). books_after_body l.table b body) serves.books ∙ sym (books_more go_on l.table start.books bodies body)
 
     -- the frame is the next one
-    read_more : (next : Option (List ℕ)) (body : List ℕ) → Consumes pending next (frame_of h body) → Consumes unread next (frames_of h (bodies ++ body ∷ []) ++ [])
+    read_more : (next : Option (List ℕ)) (body : List ℕ) → Consumes now.unread next (frame_of l.header body) → Consumes start.unread next (frames_of l.header (bodies ++ body ∷ []) ++ [])
     read_more next body taken =
-        let frames : (frames_of h bodies ++ []) ++ frame_of h body ≡ frames_of h (bodies ++ body ∷ []) ++ [] =
-        append_assoc (frames_of h bodies) [] (frame_of h body) ∙ ap (λ (l : List ℕ). frames_of h bodies ++ l) (sym (append-nil (frame_of h body))) ∙ sym (frames_more h bodies body []) in
-        subst (Consumes unread next) frames (Consumes-trans unread pending next _ _ served.read taken)
-
-    -- some bytes behind the frames are read, the window's last
-    read_part : (left : Option (List ℕ)) (window part : List ℕ) → Consumes pending (prepend_known window left) part → Consumes unread left (frames_of h bodies ++ (part ++ window))
-    read_part left window part taken =
-        let bytes : ((frames_of h bodies ++ []) ++ part) ++ window ≡ frames_of h bodies ++ (part ++ window) =
-        append_assoc (frames_of h bodies ++ []) part window ∙ append_assoc (frames_of h bodies) [] (part ++ window) in
-        subst (Consumes unread left) bytes
-        (taken_behind unread left ((frames_of h bodies ++ []) ++ part) window (Consumes-trans unread pending (prepend_known window left) _ _ served.read taken))
-
-    -- the answer is the next one of the output
-    answer_more : (body answer : List ℕ) → IsAnswer t h mid body answer → IsAnswer t h (books_after_bodies t old bodies) body answer
-    answer_more body answer is = subst (λ (b : Books). IsAnswer t h b body answer) served.books is
+        let frames : (frames_of l.header bodies ++ []) ++ frame_of l.header body ≡ frames_of l.header (bodies ++ body ∷ []) ++ [] =
+        append_assoc (frames_of l.header bodies) [] (frame_of l.header body) ∙ ap (λ (k : List ℕ). frames_of l.header bodies ++ k) (sym (append-nil (frame_of l.header body)))
+        ∙ sym (frames_more l.header bodies body []) in
+        subst (Consumes start.unread next) frames (Consumes-trans start.unread now.unread next _ _ serves.read taken)
 
     -- one more body is handled and answered
-    served_more : (next after : Option (List ℕ)) (new : Books) (c1 c2 : Counts) (body : List ℕ) → Consumes pending next (frame_of h body) → length body ≤ largest h
-        → AnswersWhole t h mid new (message_in t body) written after c1 c2 → Served t h unread next held after old new (bodies ++ body ∷ []) []
-    served_more next after new c1 c2 body taken fits whole = record {
+    serves_more : (next : Option (List ℕ)) (after : Stream) (new : Books) (body : List ℕ) → Consumes now.unread next (frame_of l.header body) → length body ≤ largest l.header
+        → AnswersWhole l now.books new (message_in l.table body) now.writer after → Serves l (standing_of start) (standing next after.bytes new) (bodies ++ body ∷ []) []
+    serves_more next after new body taken fits whole = record {
       read = read_more next body taken;
-      fit = AllFit_more h bodies body served.fit fits;
+      fit = AllFit_more l.header bodies body serves.fit fits;
       books = entered_more new body whole.entered;
-      bytes = served.bytes ++ whole.bytes;
-      output = output_more t h old bodies body served.bytes whole.bytes served.output (answer_more body whole.bytes whole.answer);
-      answers = Appends-trans held written after _ _ served.answers whole.appends;
+      bytes = serves.bytes ++ whole.bytes;
+      output = output_more l.table l.header start.books bodies body serves.bytes whole.bytes serves.output (answer_more body whole.bytes whole.answer);
+      answers = Appends-trans start.writer.bytes now.writer.bytes after.bytes _ _ serves.answers whole.appends;
     }
 
     -- one more body is handled, and of its answer nothing or a part is written
-    stopped_after : (left after : Option (List ℕ)) (window : List ℕ) (new : Books) (c0 c1 c2 : Counts) (body : List ℕ) → FlushesAll c0 c1 served.bytes
-        → Consumes pending (prepend_known window left) (frame_of h body) → length body ≤ largest h
-        → new ≡ books_after_body t mid body → (answer : List ℕ) → IsAnswer t h mid body answer → WritesPart written after c1 c2 answer → LastWaits t h unread left held after old new c0 c2
-    stopped_after left after window new c0 c1 c2 body flushed taken fits enters answer is some = (
+    stops_after : (left : Option (List ℕ)) (after : Stream) (window : List ℕ) (new : Books) (body : List ℕ) → FlushesAll start.writer.counts now.writer.counts serves.bytes
+        → Consumes now.unread (prepend_known window left) (frame_of l.header body) → length body ≤ largest l.header
+        → AnswersPart l now.books new (message_in l.table body) now.writer after → LastWaits l start (sending left after new)
+    stops_after left after window new body flushed taken fits (enters, (answer, is, some)) = (
       bodies ++ body ∷ [],
       window,
-      served.bytes ++ take some.count answer,
       record {
-        read = subst (Consumes unread left) (ap (λ (l : List ℕ). l ++ window) (append-nil (frames_of h (bodies ++ body ∷ []))))
-            (taken_behind unread left (frames_of h (bodies ++ body ∷ []) ++ []) window (read_more (prepend_known window left) body taken));
-        fit = AllFit_more h bodies body served.fit fits;
+        read = subst (Consumes start.unread left) (ap (λ (k : List ℕ). k ++ window) (append-nil (frames_of l.header (bodies ++ body ∷ []))))
+            (taken_behind start.unread left (frames_of l.header (bodies ++ body ∷ []) ++ []) window (read_more (prepend_known window left) body taken));
+        fit = AllFit_more l.header bodies body serves.fit fits;
         books = entered_more new body enters;
-        answers = Appends-trans held written after _ _ served.answers some.appends;
-        less = served.bytes;
-        less_output = subst (λ l. IsOutput t h old l served.bytes) (sym (front_more bodies body)) served.output;
+        bytes = serves.bytes ++ take some.count answer;
+        answers = Appends-trans start.writer.bytes now.writer.bytes after.bytes _ _ serves.answers some.appends;
+        less = serves.bytes;
+        less_output = subst (λ k. IsOutput l.table l.header start.books k serves.bytes) (sym (front_more bodies body)) serves.output;
         no_less = (take some.count answer, refl);
-        most = served.bytes ++ answer;
-        most_output = output_more t h old bodies body served.bytes answer served.output (answer_more body answer is);
+        most = serves.bytes ++ answer;
+        most_output = output_more l.table l.header start.books bodies body serves.bytes answer serves.output (answer_more body answer is);
         no_more = (
           drop some.count answer,
-          ap (λ (l : List ℕ). served.bytes ++ l) (sym (take-append-drop some.count answer)) ∙ sym (append_assoc served.bytes (take some.count answer) (drop some.count answer)),
+          ap (λ (k : List ℕ). serves.bytes ++ k) (sym (take-append-drop some.count answer)) ∙ sym (append_assoc serves.bytes (take some.count answer) (drop some.count answer)),
         );
       },
-      waits_behind c0 c1 c2 served.bytes answer some.count flushed some.within some.waits,
+      waits_behind start.writer.counts now.writer.counts after.counts serves.bytes answer some.count flushed some.within some.waits,
     )
 
-    -- it stops before the next body is handled
-    stopped_here : (left : Option (List ℕ)) (window part : List ℕ) → Consumes pending (prepend_known window left) part → Cut t h unread left held written old mid
-    stopped_here left window part taken =
-        let front = output_front t h old bodies served.bytes served.output in (
-          bodies,
-          part ++ window,
-          served.bytes,
-          record {
-            read = read_part left window part taken;
-            fit = served.fit;
-            books = served.books;
-            answers = served.answers;
-            less = front.0;
-            less_output = front.1;
-            no_less = front.2;
-            most = served.bytes;
-            most_output = served.output;
-            no_more = ([], sym (append-nil served.bytes));
-          },
-        )
-
-    -- answering a body ends the call
-    stopped_answering : (left after : Option (List ℕ)) (window : List ℕ) (new : Books) (c0 c1 c2 : Counts) (body : List ℕ) → FlushesAll c0 c1 served.bytes
-        → Consumes pending (prepend_known window left) (frame_of h body) → length body ≤ largest h
-        → AnswersPart t h mid new (message_in t body) written after c1 c2 → Cut t h unread left held after old new
-    stopped_answering left after window new c0 c1 c2 body flushed taken fits (inl kept) =
-        subst (λ (b : Books). Cut t h unread left held after old b) (sym kept.0)
-        (subst (λ o. Cut t h unread left held o old mid) (sym kept.1) (stopped_here left window (frame_of h body) taken))
-    stopped_answering left after window new c0 c1 c2 body flushed taken fits (inr some) =
-        let waits = stopped_after left after window new c0 c1 c2 body flushed taken fits some.0 some.1.0 some.1.1 some.1.2 in
-        (waits.0, waits.1, waits.2, waits.3)
-
-    pub stop_at : (T : Type 0) (left after : Option (List ℕ)) (window : List ℕ) (new : Books) (c0 c1 c2 : Counts) (before turns : ℕ) (body : List ℕ) (fault : ServeFault)
-        → FlushesAll c0 c1 served.bytes → Consumes pending (prepend_known window left) (frame_of h body) → length body ≤ largest h
-        → AnswersPart t h mid new (message_in t body) written after c1 c2
-        → SpendsOnWrite {T = T} c1 c2 before turns (Err fault) → Leaves t h unread left held after old new (Err fault)
-    stop_at T left after window new c0 c1 c2 before turns body Read flushed taken fits part spent = absurd spent
-    stop_at T left after window new c0 c1 c2 before turns body BadHeader flushed taken fits part spent = absurd spent
-    stop_at T left after window new c0 c1 c2 before turns body CutFrame flushed taken fits part spent = absurd spent
-    stop_at T left after window new c0 c1 c2 before turns body Write flushed taken fits part spent = stopped_answering left after window new c0 c1 c2 body flushed taken fits part
-    stop_at T left after window new c0 c1 c2 before turns body TooManyTurns flushed taken fits part spent = stopped_answering left after window new c0 c1 c2 body flushed taken fits part
-    stop_at T left after window new c0 c1 c2 before turns body Memory flushed taken fits part spent = stopped_answering left after window new c0 c1 c2 body flushed taken fits part
-
-    -- and what then waits for a flush
-    pub waits_at : (T : Type 0) (left after : Option (List ℕ)) (window : List ℕ) (new : Books) (c0 c1 c2 : Counts) (before turns : ℕ) (body : List ℕ) (fault : ServeFault)
-        → FlushesAll c0 c1 served.bytes → Consumes pending (prepend_known window left) (frame_of h body) → length body ≤ largest h
-        → AnswersPart t h mid new (message_in t body) written after c1 c2
-        → SpendsOnWrite {T = T} c1 c2 before turns (Err fault) → Flushes t h unread left held after old new c0 c2 (Err fault)
-    waits_at T left after window new c0 c1 c2 before turns body Read flushed taken fits part spent = absurd spent
-    waits_at T left after window new c0 c1 c2 before turns body BadHeader flushed taken fits part spent = absurd spent
-    waits_at T left after window new c0 c1 c2 before turns body CutFrame flushed taken fits part spent = absurd spent
-    waits_at T left after window new c0 c1 c2 before turns body Memory flushed taken fits part spent =
-        subst (IsFlushed c0) (sym spent) (flushed_so c0 c1 served.bytes flushed)
-    waits_at T left after window new c0 c1 c2 before turns body Write flushed taken fits (inl kept) spent =
-        absurd (omega (arith, spent, ap (λ (c : Counts). c.failures) kept.2))
-    waits_at T left after window new c0 c1 c2 before turns body Write flushed taken fits (inr some) spent =
-        stopped_after left after window new c0 c1 c2 body flushed taken fits some.0 some.1.0 some.1.1 some.1.2
-    waits_at T left after window new c0 c1 c2 before turns body TooManyTurns flushed taken fits (inl kept) spent =
-        inl (subst (IsFlushed c0) (sym kept.2) (flushed_so c0 c1 served.bytes flushed))
-    waits_at T left after window new c0 c1 c2 before turns body TooManyTurns flushed taken fits (inr some) spent =
-        inr (stopped_after left after window new c0 c1 c2 body flushed taken fits some.0 some.1.0 some.1.1 some.1.2)
-
-    -- all frames are handled, and these bytes are read behind them
-    served_part : (left : Option (List ℕ)) (window part : List ℕ) → Consumes pending (prepend_known window left) part → Served t h unread left held written old mid bodies (part ++ window)
-    served_part left window part taken = record {
-      read = read_part left window part taken;
-      fit = served.fit;
-      books = served.books;
-      bytes = served.bytes;
-      output = served.output;
-      answers = served.answers;
-    }
-
-    -- a frame doesn't come to its end
-    pub stop_inside : BadIsNoFrame → BadStays → (left : Option (List ℕ)) (window : List ℕ) (fault : ServeFault) → EndsInside h pending (prepend_known window left) window left fault
-        → Leaves t h unread left held written old mid (Err fault)
-    stop_inside bad stays left window Read (part, taken, none, needs) =
-        let all : part ++ window ≡ part = ap (λ (l : List ℕ). part ++ l) none ∙ append-nil part in
-        (bodies, part ++ window, served_part left window part taken, subst (NoFrame h) (sym all) needs.no_frame, tt)
-    stop_inside bad stays left window CutFrame (part, taken, none, needs, some, end) =
-        let all : part ++ window ≡ part = ap (λ (l : List ℕ). part ++ l) none ∙ append-nil part in (
-          bodies,
-          part ++ window,
-          served_part left window part taken,
-          subst (NoFrame h) (sym all) needs.no_frame,
-          (subst (λ (l : List ℕ). l ≢ []) (sym all) some, end, ap (is_bad_header h) all ∙ needs.no_fault),
-        )
-    stop_inside bad stays left window BadHeader (part, taken, is_bad) =
-        let fault = stays h part window is_bad in
-        (bodies, part ++ window, served_part left window part taken, bad h (part ++ window) fault, fault)
-    stop_inside bad stays left window TooManyTurns (part, taken) = stopped_here left window part taken
-    stop_inside bad stays left window Memory (part, taken) = stopped_here left window part taken
-    stop_inside bad stays left window Write ends = absurd ends
-
-    -- the next frame doesn't come to its end, or its body isn't answered
-    pub stop_before : BadIsNoFrame → BadStays → (left : Option (List ℕ)) (window : List ℕ) (new : Books) (fault : ServeFault)
-        → EndsBefore t h pending (prepend_known window left) window left mid new fault → Leaves t h unread left held written old new (Err fault)
-    stop_before bad stays left window new Read ends = subst (λ (b : Books). Leaves t h unread left held written old b (Err Read)) (sym ends.1) (stop_inside bad stays left window Read ends.0)
-    stop_before bad stays left window new CutFrame ends = subst (λ (b : Books). Leaves t h unread left held written old b (Err CutFrame)) (sym ends.1) (stop_inside bad stays left window CutFrame ends.0)
-    stop_before bad stays left window new TooManyTurns ends = subst (λ (b : Books). Leaves t h unread left held written old b (Err TooManyTurns)) (sym ends.1) (stop_inside bad stays left window TooManyTurns ends.0)
-    stop_before bad stays left window new BadHeader (part, taken, is_bad, kept) =
-        subst (λ (b : Books). Leaves t h unread left held written old b (Err BadHeader)) (sym kept)
-        (bodies, part ++ window, served_part left window part taken, bad h (part ++ window) is_bad, is_bad)
-    stop_before bad stays left window new Memory (part, taken, inl kept) =
-        subst (λ (b : Books). Leaves t h unread left held written old b (Err Memory)) (sym kept) (stopped_here left window part taken)
-    stop_before bad stays left window new Memory (part, taken, inr (body, more, is, fits, enters)) = (
+    -- one more body is handled without memory for its answer
+    stops_unmade : (left : Option (List ℕ)) (window part body more : List ℕ) (new : Books) → Consumes now.unread (prepend_known window left) part → part ++ window ≡ frame_of l.header body ++ more
+        → length body ≤ largest l.header → new ≡ books_after_body l.table now.books body → (answer : List ℕ) → IsAnswer l.table l.header now.books body answer
+        → IsCut l (standing_of start) (standing left now.writer.bytes new)
+    stops_unmade left window part body more new taken is fits enters answer made = (
       bodies ++ body ∷ [],
       more,
-      served.bytes,
       record {
-        read = subst (Consumes unread left) (ap (λ (l : List ℕ). frames_of h bodies ++ l) is ∙ sym (frames_more h bodies body more)) (read_part left window part taken);
-        fit = AllFit_more h bodies body served.fit fits;
-        books = entered_more new body enters.0;
-        answers = served.answers;
-        less = served.bytes;
-        less_output = subst (λ l. IsOutput t h old l served.bytes) (sym (front_more bodies body)) served.output;
-        no_less = ([], sym (append-nil served.bytes));
-        most = served.bytes ++ enters.1.0;
-        most_output = output_more t h old bodies body served.bytes enters.1.0 served.output (answer_more body enters.1.0 enters.1.1);
-        no_more = (enters.1.0, refl);
+        read = subst (Consumes start.unread left) (ap (λ (k : List ℕ). frames_of l.header bodies ++ k) is ∙ sym (frames_more l.header bodies body more)) (read_part left window part taken);
+        fit = AllFit_more l.header bodies body serves.fit fits;
+        books = entered_more new body enters;
+        bytes = serves.bytes;
+        answers = serves.answers;
+        less = serves.bytes;
+        less_output = subst (λ k. IsOutput l.table l.header start.books k serves.bytes) (sym (front_more bodies body)) serves.output;
+        no_less = ([], sym (append-nil serves.bytes));
+        most = serves.bytes ++ answer;
+        most_output = output_more l.table l.header start.books bodies body serves.bytes answer serves.output (answer_more body answer made);
+        no_more = (answer, refl);
       },
     )
-    stop_before bad stays left window new Write ends = absurd ends
 
-    -- the input ends between two frames
-    pub ends_whole : (left : Option (List ℕ)) (window : List ℕ) (report : Report) → Keeps pending (prepend_known window left) → window ≡ [] → IsAtEnd left → Reports t report bodies
-        → Leaves t h unread left held written old mid (Ok report)
-    ends_whole left window report kept none end reports =
-        let read = served_part left window [] (none_taken pending (prepend_known window left) kept) in
-        (bodies, window, read, subst (NoFrame h) (sym none) (no_byte h), (none, end, reports))
+-- ---- a call that ends
+
+module _ (l : Agreed) (start now : Sending) (report : Report) (going : Going l start now report) where
+  -- answering a body ends the call
+  stops_answering : FirstsGoOn → (left : Option (List ℕ)) (after : Stream) (window : List ℕ) (new : Books) (body : List ℕ) → Consumes now.unread (prepend_known window left) (frame_of l.header body)
+      → length body ≤ largest l.header → AnswersPart l now.books new (message_in l.table body) now.writer after → LastWaits l start (sending left after new)
+  stops_answering go_on left after window new body taken fits part = stops_after l start now going.bodies going.serves go_on left after window new body going.flushed taken fits part
+
+  pub stop_at : FirstsGoOn → (T : Type 0) (left : Option (List ℕ)) (after : Stream) (window : List ℕ) (new : Books) (before turns : ℕ) (body : List ℕ) (fault : ServeFault)
+      → Consumes now.unread (prepend_known window left) (frame_of l.header body) → length body ≤ largest l.header
+      → AnswersPart l now.books new (message_in l.table body) now.writer after → SpendsOnWrite {T = T} now.writer.counts after.counts before turns (Err fault)
+      → Leaves l (standing_of start) (standing left after.bytes new) (Err fault)
+  stop_at go_on T left after window new before turns body Read taken fits part spent = absurd spent
+  stop_at go_on T left after window new before turns body BadHeader taken fits part spent = absurd spent
+  stop_at go_on T left after window new before turns body CutFrame taken fits part spent = absurd spent
+  stop_at go_on T left after window new before turns body Write taken fits part spent = let waits = stops_answering go_on left after window new body taken fits part in (waits.0, waits.1, waits.2)
+  stop_at go_on T left after window new before turns body TooManyTurns taken fits part spent = let waits = stops_answering go_on left after window new body taken fits part in (waits.0, waits.1, waits.2)
+  stop_at go_on T left after window new before turns body Memory taken fits part spent = let waits = stops_answering go_on left after window new body taken fits part in (waits.0, waits.1, waits.2)
+
+  -- and what then waits for a flush
+  pub waits_at : FirstsGoOn → (T : Type 0) (left : Option (List ℕ)) (after : Stream) (window : List ℕ) (new : Books) (before turns : ℕ) (body : List ℕ) (fault : ServeFault)
+      → Consumes now.unread (prepend_known window left) (frame_of l.header body) → length body ≤ largest l.header
+      → AnswersPart l now.books new (message_in l.table body) now.writer after → SpendsOnWrite {T = T} now.writer.counts after.counts before turns (Err fault)
+      → Flushes l start (sending left after new) (Err fault)
+  waits_at go_on T left after window new before turns body Read taken fits part spent = absurd spent
+  waits_at go_on T left after window new before turns body BadHeader taken fits part spent = absurd spent
+  waits_at go_on T left after window new before turns body CutFrame taken fits part spent = absurd spent
+  waits_at go_on T left after window new before turns body Memory taken fits part spent =
+      subst (IsFlushed start.writer.counts) (sym spent) (flushed_so start.writer.counts now.writer.counts going.serves.bytes going.flushed)
+  waits_at go_on T left after window new before turns body Write taken fits part spent = stops_answering go_on left after window new body taken fits part
+  waits_at go_on T left after window new before turns body TooManyTurns taken fits part spent = inr (stops_answering go_on left after window new body taken fits part)
+
+  -- the input ends between two frames
+  pub ends_whole : (left : Option (List ℕ)) (window : List ℕ) (new : Books) → Keeps now.unread (prepend_known window left) → window ≡ [] → IsAtEnd left → new ≡ now.books
+      → Leaves l (standing_of start) (standing left now.writer.bytes new) (Ok report)
+  ends_whole left window new kept none end same =
+      let read = serves_part l start now going.bodies going.serves left window [] (none_taken now.unread (prepend_known window left) kept) in
+      subst (λ (b : Books). Leaves l (standing_of start) (standing left now.writer.bytes b) (Ok report)) (sym same)
+      (going.bodies, window, read, subst (NoFrame l.header) (sym none) (no_byte l.header), (none, end, going.reports))
+
+  -- all frames are handled, or it stops behind them, with the books as they are
+  abbrev LeavesBehind : Option (List ℕ) → Books → ServeFault → Type 0
+  LeavesBehind left new fault = Leaves l (standing_of start) (standing left now.writer.bytes new) (Err fault)
+
+  -- a frame doesn't come to its end
+  stop_inside : BadIsNoFrame → BadStays → (before after : Reading) (fault : ServeFault) → to_come before ≡ now.unread → EndsInside l.header before after fault → LeavesBehind after.reader.bytes now.books fault
+  stop_inside bad stays before after Read same (part, taken, none, needs) =
+      let all : part ++ after.window ≡ part = ap (λ (k : List ℕ). part ++ k) none ∙ append-nil part in
+      let read = serves_part l start now going.bodies going.serves after.reader.bytes after.window part (subst (λ (o : Option (List ℕ)). Consumes o (to_come after) part) same taken) in
+      (going.bodies, part ++ after.window, read, subst (NoFrame l.header) (sym all) needs.no_frame, tt)
+  stop_inside bad stays before after CutFrame same (part, taken, none, needs, some, end) =
+      let all : part ++ after.window ≡ part = ap (λ (k : List ℕ). part ++ k) none ∙ append-nil part in
+      let read = serves_part l start now going.bodies going.serves after.reader.bytes after.window part (subst (λ (o : Option (List ℕ)). Consumes o (to_come after) part) same taken) in (
+        going.bodies,
+        part ++ after.window,
+        read,
+        subst (NoFrame l.header) (sym all) needs.no_frame,
+        (subst (λ (k : List ℕ). k ≢ []) (sym all) some, end, ap (is_bad_header l.header) all ∙ needs.no_fault),
+      )
+  stop_inside bad stays before after BadHeader same (part, taken, is_bad) =
+      let fault = stays l.header part after.window is_bad in
+      let read = serves_part l start now going.bodies going.serves after.reader.bytes after.window part (subst (λ (o : Option (List ℕ)). Consumes o (to_come after) part) same taken) in
+      (going.bodies, part ++ after.window, read, bad l.header (part ++ after.window) fault, fault)
+  stop_inside bad stays before after TooManyTurns same (part, taken) =
+      stops_here l start now going.bodies going.serves after.reader.bytes after.window part (subst (λ (o : Option (List ℕ)). Consumes o (to_come after) part) same taken)
+  stop_inside bad stays before after Memory same (part, taken) =
+      stops_here l start now going.bodies going.serves after.reader.bytes after.window part (subst (λ (o : Option (List ℕ)). Consumes o (to_come after) part) same taken)
+  stop_inside bad stays before after Write same ends = absurd ends
+
+  -- the next frame doesn't come to its end, or its body isn't answered
+  pub stop_before : FirstsGoOn → BadIsNoFrame → BadStays → (before after : Taking) (fault : ServeFault) → EndsBefore l before after fault → to_come before.input ≡ now.unread
+      → before.host.books ≡ now.books → LeavesBehind after.input.reader.bytes after.host.books fault
+  stop_before go_on bad stays before after Read (inside, kept) same books =
+      subst (λ (b : Books). LeavesBehind after.input.reader.bytes b Read) (sym (kept ∙ books)) (stop_inside bad stays before.input after.input Read same inside)
+  stop_before go_on bad stays before after CutFrame (inside, kept) same books =
+      subst (λ (b : Books). LeavesBehind after.input.reader.bytes b CutFrame) (sym (kept ∙ books)) (stop_inside bad stays before.input after.input CutFrame same inside)
+  stop_before go_on bad stays before after TooManyTurns (inside, kept) same books =
+      subst (λ (b : Books). LeavesBehind after.input.reader.bytes b TooManyTurns) (sym (kept ∙ books)) (stop_inside bad stays before.input after.input TooManyTurns same inside)
+  stop_before go_on bad stays before after BadHeader (part, taken, is_bad, kept) same books =
+      let read = serves_part l start now going.bodies going.serves after.input.reader.bytes after.input.window part (subst (λ (o : Option (List ℕ)). Consumes o (to_come after.input) part) same taken) in
+      subst (λ (b : Books). LeavesBehind after.input.reader.bytes b BadHeader) (sym (kept ∙ books))
+      (going.bodies, part ++ after.input.window, read, bad l.header (part ++ after.input.window) is_bad, is_bad)
+  stop_before go_on bad stays before after Memory (part, taken, inl kept) same books =
+      subst (λ (b : Books). LeavesBehind after.input.reader.bytes b Memory) (sym (kept ∙ books))
+      (stops_here l start now going.bodies going.serves after.input.reader.bytes after.input.window part (subst (λ (o : Option (List ℕ)). Consumes o (to_come after.input) part) same taken))
+  stop_before go_on bad stays before after Memory (part, taken, inr (body, more, is, fits, enters)) same books =
+      stops_unmade l start now going.bodies going.serves go_on after.input.reader.bytes after.input.window part body more after.host.books
+      (subst (λ (o : Option (List ℕ)). Consumes o (to_come after.input) part) same taken) is fits (enters.0 ∙ ap (λ (b : Books). books_after_body l.table b body) books)
+      enters.1.0 (subst (λ (b : Books). IsAnswer l.table l.header b body enters.1.0) books enters.1.1)
+  stop_before go_on bad stays before after Write ends same books = absurd ends
 
 -- ---- the report
 
@@ -287,38 +305,38 @@ reports_more t old new bodies body r s = record {
 -- ---- the loop
 
 -- the loop begins
-pub going_none : (t : Layout) (h : Header) (unread held : Option (List ℕ)) (old : Books) (sent : Counts) (report : Report) → books_after old [] ≡ old → (window : List ℕ) → window ≡ []
-    → Reports t report [] → Going t h unread (prepend_known window unread) held held old old sent sent report
-unfolding served_none
-going_none t h unread held old sent report kept window none reports = record {
+pub going_none : (l : Agreed) (start : Sending) (report : Report) (window : List ℕ) → books_after start.books [] ≡ start.books → window ≡ [] → Reports l.table report []
+    → Going l start (sending (prepend_known window start.unread) start.writer start.books) report
+unfolding serves_none
+going_none l start report window kept none reports = record {
   bodies = [];
-  served = served_none t h unread held old kept window none;
+  serves = serves_none l start window kept none;
   flushed = inr (refl, refl);
   reports = reports;
 }
 
 -- it goes on behind the frame
-pub going_more : FirstsGoOn → (t : Layout) (h : Header) (unread pending next held written after : Option (List ℕ)) (old mid new : Books) (c0 c1 c2 : Counts) (before report : Report) (body : List ℕ)
-    → Going t h unread pending held written old mid c0 c1 before → Consumes pending next (frame_of h body) → length body ≤ largest h
-    → AnswersWhole t h mid new (message_in t body) written after c1 c2 → ReportsOneMore before report (asked_of t body) → Going t h unread next held after old new c0 c2 report
-unfolding served_more
-going_more go_on t h unread pending next held written after old mid new c0 c1 c2 before report body going taken fits whole reports = record {
+pub going_more : FirstsGoOn → (l : Agreed) (start now : Sending) (next : Option (List ℕ)) (after : Stream) (new : Books) (before report : Report) (body : List ℕ)
+    → Going l start now before → Consumes now.unread next (frame_of l.header body) → length body ≤ largest l.header
+    → AnswersWhole l now.books new (message_in l.table body) now.writer after → ReportsOneMore before report (asked_of l.table body) → Going l start (sending next after new) report
+unfolding serves_more
+going_more go_on l start now next after new before report body going taken fits whole reports = record {
   bodies = going.bodies ++ body ∷ [];
-  served = served_more t h unread held old go_on pending written mid going.bodies going.served next after new c1 c2 body taken fits whole;
-  flushed = flushed_more c0 c1 c2 going.served.bytes whole.bytes going.flushed whole.flushed;
-  reports = reports_more t before report going.bodies body going.reports reports;
+  serves = serves_more l start now going.bodies going.serves go_on next after new body taken fits whole;
+  flushed = flushed_more start.writer.counts now.writer.counts after.counts going.serves.bytes whole.bytes going.flushed whole.flushed;
+  reports = reports_more l.table before report going.bodies body going.reports reports;
 }
 
-pub running_write : (reader_old r writer_old w w' : Counts) (turns left left' : ℕ) → Running reader_old r writer_old w turns left → TakesTurns w w' left left' → Spends w w' left left' → Running reader_old r writer_old w' turns left'
-running_write reader_old r writer_old w w' turns left left' running takes spends = record {
+pub running_write : (before now : Usage) (w : Counts) (turns left left' : ℕ) → Running before now turns left → TakesTurns now.writer w left left' → Spends now.writer w left left' → Running before (usage now.reader w) turns left'
+running_write before now w turns left left' running takes spends = record {
   calls = omega (arith, running.calls, takes);
   moved = omega (arith, running.moved, spends.moved);
   reader = running.reader;
   writer = spends.failures ∙ running.writer;
 }
 
-pub running_read : (reader_old r r' writer_old w : Counts) (turns left left' : ℕ) → Running reader_old r writer_old w turns left → TakesTurns r r' left left' → Spends r r' left left' → Running reader_old r' writer_old w turns left'
-running_read reader_old r r' writer_old w turns left left' running takes spends = record {
+pub running_read : (before now : Usage) (r : Counts) (turns left left' : ℕ) → Running before now turns left → TakesTurns now.reader r left left' → Spends now.reader r left left' → Running before (usage r now.writer) turns left'
+running_read before now r turns left left' running takes spends = record {
   calls = omega (arith, running.calls, takes);
   moved = omega (arith, running.moved, spends.moved);
   reader = spends.failures ∙ running.reader;
@@ -328,21 +346,21 @@ running_read reader_old r r' writer_old w turns left left' running takes spends 
 -- ---- one answer
 
 -- it was written, from an empty buffer
-pub written_whole : (t : Layout) (h : Header) (mid new : Books) (body out grown : List ℕ) (written after : Option (List ℕ)) (c1 c2 : Counts) → out ≡ [] → Answers t h mid new body out grown
-    → Appends written after grown → FlushesAll c1 c2 grown → AnswersWhole t h mid new (message_in t body) written after c1 c2
-written_whole t h mid new body out grown written after c1 c2 none (entered, (bytes, answer, grows)) appends flushed =
-    let is : grown ≡ bytes = grows ∙ ap (λ (l : List ℕ). l ++ bytes) none in
+pub written_whole : (l : Agreed) (before after : Replying) (body : List ℕ) (written sent : Stream) → before.out ≡ [] → Answers l before after body
+    → Appends written.bytes sent.bytes after.out → FlushesAll written.counts sent.counts after.out → AnswersWhole l before.books after.books (message_in l.table body) written sent
+written_whole l before after body written sent none (entered, (bytes, answer, grows)) appends flushed =
+    let is : after.out ≡ bytes = grows ∙ ap (λ (k : List ℕ). k ++ bytes) none in
     record {
       entered = entered;
       bytes = bytes;
       answer = answer;
-      appends = subst (Appends written after) is appends;
-      flushed = subst (FlushesAll c1 c2) is flushed;
+      appends = subst (Appends written.bytes sent.bytes) is appends;
+      flushed = subst (FlushesAll written.counts sent.counts) is flushed;
     }
 
 -- or in part
-pub written_part : (t : Layout) (h : Header) (mid new : Books) (body out grown : List ℕ) (written after : Option (List ℕ)) (c1 c2 : Counts) → out ≡ [] → Answers t h mid new body out grown
-    → WritesPart written after c1 c2 grown → AnswersPart t h mid new (message_in t body) written after c1 c2
-written_part t h mid new body out grown written after c1 c2 none (entered, (bytes, answer, grows)) part =
-    let is : grown ≡ bytes = grows ∙ ap (λ (l : List ℕ). l ++ bytes) none in
-    inr (entered, (bytes, answer, subst (WritesPart written after c1 c2) is part))
+pub written_part : (l : Agreed) (before after : Replying) (body : List ℕ) (written sent : Stream) → before.out ≡ [] → Answers l before after body
+    → WritesPart written sent after.out → AnswersPart l before.books after.books (message_in l.table body) written sent
+written_part l before after body written sent none (entered, (bytes, answer, grows)) part =
+    let is : after.out ≡ bytes = grows ∙ ap (λ (k : List ℕ). k ++ bytes) none in
+    (entered, (bytes, answer, subst (WritesPart written sent) is part))

@@ -20,9 +20,8 @@ use Rattle.iso_host.specs.Handling.{books_after_body}
 use Rattle.iso_host.specs.Output.{IsAnswer, IsOutput, IsOutputFrom}
 use Rattle.iso_host.specs.declared.handled.Handled.{Handled}
 use Rattle.iso_host.specs.Asking.{asked_of, orders_in, orders_of}
-use Rattle.iso_host.specs.Links.{Agreed}
-use Rattle.iso_host.specs.Peers.{TakesPiece, Refuses}
-use Rattle.iso_host.specs.Sharing.{Call, Calls, Peers, Goes, GoesOn, Entry, taken_of, bytes_of, bodies_of, orders_by, books_after_entries, AreFrames, InOrder, IsAnswerIf, IsShareFrom, Shares, PeersShare, AreOf, PeerAlone}
+use Rattle.iso_host.specs.Links.{Agreed, agreed}
+use Rattle.iso_host.specs.Sharing.{Call, Calls, Peers, Goes, GoesOn, Entry, taken_of, bytes_of, bodies_of, orders_by, books_after_entries, AreFrames, InOrder, IsAnswerIf, IsShareFrom, Shares, PeersShare, AreOf, PeerAlone, opening, peer_of}
 
 -- ---- one peer's bytes
 
@@ -107,7 +106,7 @@ order_more links calls call ended more order all n within = by_test (leb n (leng
 
 -- one more body
 share_more : (links : ℕ → Agreed) (books : Books) (s : ℕ) (earlier ended : List Entry) (e : Entry) (out first : List ℕ)
-    → IsShareFrom links books s earlier ended out → IsAnswerIf ((e.peer == s) && e.answered) (links s) (books_after_entries links books (earlier ++ ended)) e.body first → IsShareFrom links books s earlier (ended ++ e ∷ []) (out ++ first)
+    → IsShareFrom (opening links books) s earlier ended out → IsAnswerIf ((e.peer == s) && e.answered) (links s) (books_after_entries links books (earlier ++ ended)) e.body first → IsShareFrom (opening links books) s earlier (ended ++ e ∷ []) (out ++ first)
 share_more links books s earlier [] e out first is answer = (
   first,
   [],
@@ -177,8 +176,8 @@ ended_more : (s : ℕ) (ended : List Entry) (e : Entry) → EndedOf s ended → 
 ended_more s [] e of own is = (own, is, tt)
 ended_more s (x ∷ xs) e of own is = (of.0, of.1, ended_more s xs e of.2 own is)
 
-share_alone : (links : ℕ → Agreed) (books : Books) (s : ℕ) (earlier ended : List Entry) (out : List ℕ) → EndedOf s earlier → EndedOf s ended → IsShareFrom links books s earlier ended out
-    → IsOutputFrom (links s).table (links s).header books (bodies_in earlier) (bodies_in ended) out
+share_alone : (links : ℕ → Agreed) (books : Books) (s : ℕ) (earlier ended : List Entry) (out : List ℕ) → EndedOf s earlier → EndedOf s ended → IsShareFrom (opening links books) s earlier ended out
+    → IsOutputFrom (agreed (links s).table (links s).header) books (bodies_in earlier) (bodies_in ended) out
 share_alone links books s earlier [] out before of is = is
 share_alone links books s earlier (e ∷ es) out before of is =
     let answer = subst (λ (b : Bool). IsAnswerIf b (links s) (books_after_entries links books earlier) e.body is.0) of.1 is.2 in
@@ -186,7 +185,7 @@ share_alone links books s earlier (e ∷ es) out before of is =
       is.0,
       is.1,
       subst (λ (b : Books). IsAnswer (links s).table (links s).header b e.body is.0) (books_alone links s books earlier before) answer,
-      subst (λ (l : List (List ℕ)). IsOutputFrom (links s).table (links s).header books l (bodies_in es) is.1) (map-append (λ (x : Entry). x.body) earlier (e ∷ [])) rest,
+      subst (λ (l : List (List ℕ)). IsOutputFrom (agreed (links s).table (links s).header) books l (bodies_in es) is.1) (map-append (λ (x : Entry). x.body) earlier (e ∷ [])) rest,
       is.4,
     )
 
@@ -232,7 +231,7 @@ module _ (go_on : FirstsGoOn) (links : ℕ → Agreed) (calls : List Call) (call
         books = books ∙ shares.books ∙ ap (λ (l : List Entry). books_after_entries links old.books l) (sym (append-nil ended));
         out = λ s. (
           (shares.out s).0,
-          subst (λ (l : List Entry). IsShareFrom links old.books s [] l (shares.out s).0) (sym (append-nil ended)) (shares.out s).1,
+          subst (λ (l : List Entry). IsShareFrom (opening links old.books) s [] l (shares.out s).0) (sym (append-nil ended)) (shares.out s).1,
           out s ∙ (shares.out s).2,
         );
       },
@@ -252,7 +251,7 @@ module _ (go_on : FirstsGoOn) (links : ℕ → Agreed) (calls : List Call) (call
     e = entry body answered
 
     abbrev Out : ℕ → Type 0
-    Out s = (bytes : List ℕ) × IsShareFrom links old.books s [] (ended ++ e ∷ []) bytes × (new.out s ≡ old.out s ++ bytes)
+    Out s = (bytes : List ℕ) × IsShareFrom (opening links old.books) s [] (ended ++ e ∷ []) bytes × (new.out s ≡ old.out s ++ bytes)
 
     own_out : Out call.peer
     own_out =
@@ -305,7 +304,7 @@ module _ (go_on : FirstsGoOn) (links : ℕ → Agreed) (calls : List Call) (call
   outs_same own = each (λ s. new.out s ≡ mid.out s) own (λ s is. goes.others_out s (apart s is))
 
   step_by : (r : Result_of) → call.result ≡ r
-      → Calls (links call.peer) (mid.held call.peer) (new.held call.peer) mid.books new.books call.bytes (mid.out call.peer) (new.out call.peer) r → Step
+      → Calls (links call.peer) (peer_of call.peer mid) (peer_of call.peer new) call.bytes r → Step
   step_by (Ok None) same takes = step_kept (each (Frames []) own (frames_other [] (λ s is. refl))) takes.2 (outs_same takes.3)
     where
       own : Frames [] call.peer

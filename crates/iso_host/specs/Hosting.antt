@@ -11,6 +11,7 @@ use Rattle.iso_order.specs.Verdict.{verdict}
 use Rattle.iso_issuer.specs.Books.{Books}
 use Rattle.iso_host.specs.Asking.{asked_of, message_in}
 use Rattle.iso_host.specs.Handling.{entered_by, books_after_body}
+use Rattle.iso_host.specs.Links.{Agreed}
 use Rattle.iso_host.specs.Output.{IsAnswerTo, IsAnswer, outcome_for}
 use Rattle.iso_host.specs.declared.handled.BodyFault.{BodyFault}
 use Rattle.iso_host.specs.declared.handled.BodyFault.TheVariants.{Stops, Behind}
@@ -49,15 +50,23 @@ IsHandled t books body (handled.Ordered key code seq) =
 
 -- ---- one body
 
+-- a host that replies into a buffer: its books, and the bytes in the buffer
+pub record Replying : Type 0 where
+  pub books : Books
+  pub out : List ℕ
+
+-- these books and these bytes
+abbrev pub replying : Books → List ℕ → Replying
+replying books out = record { books = books; out = out }
+
 -- the message that a body is, or none, was entered, and the bytes grew by the frame of its response
-abbrev pub AnswersMessage : Layout → Header → Books → Books → Option Contents → List ℕ → List ℕ
-    → Type 0
-AnswersMessage t h old new message out grown = (new ≡ entered_by old message)
-    × GrowsBy (IsAnswerTo t h old message) out grown
+abbrev pub AnswersMessage : Agreed → Replying → Replying → Option Contents → Type 0
+AnswersMessage l before after message = (after.books ≡ entered_by before.books message)
+    × GrowsBy (IsAnswerTo l.table l.header before.books message) before.out after.out
 
 -- the body was entered, and the bytes grew by the frame of its response
-abbrev pub Answers : Layout → Header → Books → Books → List ℕ → List ℕ → List ℕ → Type 0
-Answers t h old new body out grown = AnswersMessage t h old new (message_in t body) out grown
+abbrev pub Answers : Agreed → Replying → Replying → List ℕ → Type 0
+Answers l before after body = AnswersMessage l before after (message_in l.table body)
 
 -- the body was entered, and has an answer, which wasn't made
 abbrev pub EntersAlone : Layout → Header → Books → Books → List ℕ → Type 0

@@ -6,3 +6,7 @@ use Rattle.iso_wire.specs.declared.header.Header.{Header}
 pub record Agreed : Type 0 where
   pub table : Layout
   pub header : Header
+
+-- this table and this header
+abbrev pub agreed : Layout → Header → Agreed
+agreed t h = record { table = t; header = h }

@@ -2,14 +2,11 @@
 -- Inner: bodies and proofs cite it, and no public clause does.
 use Rattle.std.specs.Prelude.{◌≡◌, ℕ, ◌≤◌, ◌<◌, List, [], ◌++◌, length, Bool, true, false, Option, Result, Ok, Err}
 use Rattle.std.specs.Io.KnownBytes.{Consumes, Keeps, IsAtEnd}
-use Rattle.iso_table.specs.Layout.{Layout}
-use Rattle.iso_wire.specs.declared.header.Header.{Header}
 use Rattle.iso_wire.specs.Framing.{frame_of, largest, is_bad_header}
-use Rattle.iso_issuer.specs.Books.{Books}
-use Rattle.iso_host.specs.Counts.{Counts}
-use Rattle.iso_host.specs.Hosting.{Answers, IsHandled}
-use Rattle.iso_host.specs.Reading.{EndsInside, EndsReads, NoByte, TakesReads}
-use Rattle.iso_host.specs.Peers.{Refuses}
+use Rattle.iso_host.specs.Hosting.{Answers, IsHandled, Replying}
+use Rattle.iso_host.specs.Links.{Agreed}
+use Rattle.iso_host.specs.Reading.{EndsInside, EndsReads, NoByte, Reading, TakesReads, to_come}
+use Rattle.iso_host.specs.Peers.{Refuses, unfinished}
 use Rattle.iso_host.specs.declared.handled.Handled.{Handled}
 use Rattle.iso_host.specs.declared.peer.PeerFault.TheVariants as peer
 use Rattle.iso_host.specs.declared.fault.ServeFault.{ServeFault}
@@ -20,36 +17,48 @@ abbrev pub Fills : {T : Type 0} → List ℕ → Option (List ℕ) → Result T 
 Fills window left (Ok x) = 0 < length window
 Fills window left (Err e) = (window ≡ []) × NoByte left e
 
+-- where a frame is taken: its reader, and the host that replies
+pub record Taking : Type 0 where
+  pub input : Reading
+  pub host : Replying
+
+-- this reader and this host
+abbrev pub taking : Reading → Replying → Taking
+taking input host = record { input = input; host = host }
+
+-- these bytes were taken
+abbrev pub TakesBytes : Taking → Taking → List ℕ → Type 0
+TakesBytes before after bytes = Consumes (to_come before.input) (to_come after.input) bytes
+
 -- the frame doesn't come to its end, or its body isn't answered
-abbrev pub EndsBefore : Layout → Header → Option (List ℕ) → Option (List ℕ) → List ℕ
-    → Option (List ℕ) → Books → Books → ServeFault → Type 0
-EndsBefore t h old new window left books after Read = EndsInside h old new window left Read
-    × (after ≡ books)
-EndsBefore t h old new window left books after CutFrame = EndsInside h old new window left CutFrame
-    × (after ≡ books)
-EndsBefore t h old new window left books after TooManyTurns =
-    EndsInside h old new window left TooManyTurns × (after ≡ books)
-EndsBefore t h old new window left books after BadHeader = (part : List ℕ) × Consumes old new part
-    × (is_bad_header h (part ++ window) ≡ true) × (after ≡ books)
-EndsBefore t h old new window left books after Memory = (part : List ℕ) × Consumes old new part
-    × Refuses t h part books after window peer.Memory
-EndsBefore t h old new window left books after Write = ⊥
+abbrev pub EndsBefore : Agreed → Taking → Taking → ServeFault → Type 0
+EndsBefore l before after Read = EndsInside l.header before.input after.input Read
+    × (after.host.books ≡ before.host.books)
+EndsBefore l before after CutFrame = EndsInside l.header before.input after.input CutFrame
+    × (after.host.books ≡ before.host.books)
+EndsBefore l before after TooManyTurns = EndsInside l.header before.input after.input TooManyTurns
+    × (after.host.books ≡ before.host.books)
+EndsBefore l before after BadHeader = (part : List ℕ) × TakesBytes before after part
+    × (is_bad_header l.header (part ++ after.input.window) ≡ true)
+    × (after.host.books ≡ before.host.books)
+EndsBefore l before after Memory = (part : List ℕ) × TakesBytes before after part
+    × Refuses (unfinished l part) before.host.books after.host.books after.input.window peer.Memory
+EndsBefore l before after Write = ⊥
 
 -- a frame is taken and its body answered; or the input ends before it
-abbrev pub AnswersFrame : Layout → Header → Option (List ℕ) → Option (List ℕ) → List ℕ
-    → Option (List ℕ) → Books → Books → List ℕ → List ℕ → Handled → Result Bool ServeFault → Type 0
-AnswersFrame t h old new window left books after out grown told (Ok true) =
-    (body : List ℕ) × Consumes old new (frame_of h body) × (length body ≤ largest h)
-    × Answers t h books after body out grown × IsHandled t books body told
-AnswersFrame t h old new window left books after out grown told (Ok false) = Keeps old new
-    × (window ≡ []) × IsAtEnd left × (after ≡ books) × (grown ≡ out)
-AnswersFrame t h old new window left books after out grown told (Err e) =
-    EndsBefore t h old new window left books after e
+abbrev pub AnswersFrame : Agreed → Taking → Taking → Handled → Result Bool ServeFault → Type 0
+AnswersFrame l before after told (Ok true) =
+    (body : List ℕ) × TakesBytes before after (frame_of l.header body)
+    × (length body ≤ largest l.header) × Answers l before.host after.host body
+    × IsHandled l.table before.host.books body told
+AnswersFrame l before after told (Ok false) = Keeps (to_come before.input) (to_come after.input)
+    × (after.input.window ≡ []) × IsAtEnd after.input.reader.bytes
+    × (after.host.books ≡ before.host.books) × (after.host.out ≡ before.host.out)
+AnswersFrame l before after told (Err e) = EndsBefore l before after e
 
 -- the turns that it takes
-abbrev pub SpendsOnNext : Counts → Counts → ℕ → ℕ → List ℕ → List ℕ → Result Bool ServeFault
-    → Type 0
-SpendsOnNext old new before left window after (Ok true) =
-    TakesReads old new before left window after 1
-SpendsOnNext old new before left window after (Ok false) = new.failures ≡ old.failures
-SpendsOnNext old new before left window after (Err e) = EndsReads old new before left e
+abbrev pub SpendsOnNext : Reading → Reading → Result Bool ServeFault → Type 0
+SpendsOnNext before after (Ok true) = TakesReads before after 1
+SpendsOnNext before after (Ok false) =
+    after.reader.counts.failures ≡ before.reader.counts.failures
+SpendsOnNext before after (Err e) = EndsReads before after e

@@ -5,6 +5,7 @@ use Rattle.iso_wire.specs.declared.header.Header.{Header}
 use Rattle.iso_wire.specs.Contents.{Contents}
 use Rattle.iso_wire.specs.Framing.{frame_of, largest}
 use Rattle.iso_wire.specs.Spelling.{PlainSpelling}
+use Rattle.iso_order.specs.Codes.{system_malfunction}
 use Rattle.iso_order.specs.declared.verdict.Verdict.{Verdict}
 use Rattle.iso_order.specs.declared.verdict.Verdict.TheVariants.{Order, Reply, Silent}
 use Rattle.iso_order.specs.Order.{Instruction}
@@ -15,13 +16,14 @@ use Rattle.iso_issuer.specs.Books.{Books, journal, is_full}
 use Rattle.iso_issuer.specs.Decision.{answer_for}
 use Rattle.iso_host.specs.Asking.{message_in}
 use Rattle.iso_host.specs.Entering.{books_after_bodies}
+use Rattle.iso_host.specs.Links.{Agreed, agreed}
 
 -- ---- the response to a body
 
--- the issuer's answer to an order, 96 where its journal is full
+-- the issuer's answer to an order, a system malfunction where its journal is full
 abbrev pub outcome_for : Books → Instruction → Outcome
 outcome_for books o =
-    if is_full books o.key then code_alone 96
+    if is_full books o.key then code_alone system_malfunction
     else answer_for books.accounts (journal books) o
 
 -- the answer to a verdict, where it is answered
@@ -58,16 +60,16 @@ IsAnswer t h books body bytes = IsAnswerTo t h books (message_in t body) bytes
 -- ---- of a stream
 
 -- what is written for these bodies, after the earlier ones
-abbrev pub IsOutputFrom : Layout → Header → Books → List (List ℕ) → List (List ℕ) → List ℕ → Type 0
-IsOutputFrom t h books earlier [] bytes = bytes ≡ []
-IsOutputFrom t h books earlier (body ∷ bodies) bytes =
+abbrev pub IsOutputFrom : Agreed → Books → List (List ℕ) → List (List ℕ) → List ℕ → Type 0
+IsOutputFrom l books earlier [] bytes = bytes ≡ []
+IsOutputFrom l books earlier (body ∷ bodies) bytes =
     (first : List ℕ) × (others : List ℕ)
-    × IsAnswer t h (books_after_bodies t books earlier) body first
-    × IsOutputFrom t h books (earlier ++ body ∷ []) bodies others × (bytes ≡ first ++ others)
+    × IsAnswer l.table l.header (books_after_bodies l.table books earlier) body first
+    × IsOutputFrom l books (earlier ++ body ∷ []) bodies others × (bytes ≡ first ++ others)
 
 -- what is written for these bodies
 unfoldable pub IsOutput : Layout → Header → Books → List (List ℕ) → List ℕ → Type 0
-IsOutput t h books bodies bytes = IsOutputFrom t h books [] bodies bytes
+IsOutput t h books bodies bytes = IsOutputFrom (agreed t h) books [] bodies bytes
 
 -- no bodies have two outputs
 abbrev pub OutputOnce : Type 0

@@ -4,11 +4,11 @@ use Rattle.std.specs.declared.option.Option.{Option}
 use Rattle.std.specs.Io.KnownBytes.{Appends, Consumes, IsAtEnd}
 use Rattle.std.specs.Io.Iter.{u64_saturate}
 use Rattle.iso_table.specs.Layout.{Layout}
-use Rattle.iso_wire.specs.declared.header.Header.{Header}
 use Rattle.iso_wire.specs.Framing.{frames_of, AllFit, NoFrame, is_bad_header}
 use Rattle.iso_issuer.specs.Books.{Books}
-use Rattle.iso_host.specs.Counts.{Counts}
+use Rattle.iso_host.specs.Counts.{Counts, Stream, Usage}
 use Rattle.iso_host.specs.Entering.{books_after_bodies}
+use Rattle.iso_host.specs.Links.{Agreed}
 use Rattle.iso_host.specs.Asking.{has_answer, is_silent, is_unreadable, count_asked}
 use Rattle.iso_host.specs.Output.{IsOutput}
 use Rattle.iso_host.specs.declared.fault.Report.{Report}
@@ -17,15 +17,25 @@ use Rattle.iso_host.specs.declared.fault.ServeFault.TheVariants.{Read, Write, Ba
 
 -- ---- the bytes and the journal
 
+-- where serving stands: what is still to be read, what is written, and the books
+pub record Standing : Type 0 where
+  pub unread : Option (List ℕ)
+  pub written : Option (List ℕ)
+  pub books : Books
+
+-- these bytes still to be read, these written, and these books
+abbrev pub standing : Option (List ℕ) → Option (List ℕ) → Books → Standing
+standing unread written books = record { unread = unread; written = written; books = books }
+
 -- these bodies came in whole frames and then this rest; they were handled and answered, and no other
-pub record Served (t : Layout) (h : Header) (unread left held written : Option (List ℕ))
-    (old new : Books) (bodies : List (List ℕ)) (rest : List ℕ) : Type 0 where
-  pub read : Consumes unread left (frames_of h bodies ++ rest)
-  pub fit : AllFit h bodies
-  pub books : new ≡ books_after_bodies t old bodies
+pub record Serves (l : Agreed) (before after : Standing) (bodies : List (List ℕ))
+    (rest : List ℕ) : Type 0 where
+  pub read : Consumes before.unread after.unread (frames_of l.header bodies ++ rest)
+  pub fit : AllFit l.header bodies
+  pub books : after.books ≡ books_after_bodies l.table before.books bodies
   pub bytes : List ℕ
-  pub output : IsOutput t h old bodies bytes
-  pub answers : Appends held written bytes
+  pub output : IsOutput l.table l.header before.books bodies bytes
+  pub answers : Appends before.written after.written bytes
 
 -- all but the last
 abbrev pub front : List (List ℕ) → List (List ℕ)
@@ -37,17 +47,18 @@ IsPrefix xs ys = (more : List ℕ) × (ys ≡ xs ++ more)
 
 -- these bodies came in whole frames; they were handled, and what was written lies between the output for all but the
 -- last and the output for all
-pub record Stopped (t : Layout) (h : Header) (unread left held written : Option (List ℕ))
-    (old new : Books) (bodies : List (List ℕ)) (rest bytes : List ℕ) : Type 0 where
-  pub read : Consumes unread left (frames_of h bodies ++ rest)
-  pub fit : AllFit h bodies
-  pub books : new ≡ books_after_bodies t old bodies
-  pub answers : Appends held written bytes
+pub record Stops (l : Agreed) (before after : Standing) (bodies : List (List ℕ))
+    (rest : List ℕ) : Type 0 where
+  pub read : Consumes before.unread after.unread (frames_of l.header bodies ++ rest)
+  pub fit : AllFit l.header bodies
+  pub books : after.books ≡ books_after_bodies l.table before.books bodies
+  pub bytes : List ℕ
+  pub answers : Appends before.written after.written bytes
   pub less : List ℕ
-  pub less_output : IsOutput t h old (front bodies) less
+  pub less_output : IsOutput l.table l.header before.books (front bodies) less
   pub no_less : IsPrefix less bytes
   pub most : List ℕ
-  pub most_output : IsOutput t h old bodies most
+  pub most_output : IsOutput l.table l.header before.books bodies most
   pub no_more : IsPrefix bytes most
 
 -- ---- the report
@@ -61,30 +72,43 @@ pub record Reports (t : Layout) (report : Report) (bodies : List (List ℕ)) : T
 
 -- ---- each end
 
-module _ (t : Layout) (h : Header) (unread left held written : Option (List ℕ))
-    (old new : Books) where
-  -- all whole frames were handled and answered, and P holds of the bodies and the rest
-  abbrev pub Whole : (List (List ℕ) → List ℕ → Type 0) → Type 0
-  Whole P = (bodies : List (List ℕ)) × (rest : List ℕ)
-      × Served t h unread left held written old new bodies rest × NoFrame h rest × P bodies rest
+-- all whole frames were handled and answered, and P holds of the bodies and the rest
+abbrev pub IsWhole : Agreed → Standing → Standing → (List (List ℕ) → List ℕ → Type 0) → Type 0
+IsWhole l before after P = (bodies : List (List ℕ)) × (rest : List ℕ)
+    × Serves l before after bodies rest × NoFrame l.header rest × P bodies rest
 
-  -- some whole frames were handled, and the last answer may be missing or cut short
-  abbrev pub Cut : Type 0
-  Cut = (bodies : List (List ℕ)) × (rest : List ℕ) × (bytes : List ℕ)
-      × Stopped t h unread left held written old new bodies rest bytes
+-- some whole frames were handled, and the last answer may be missing or cut short
+abbrev pub IsCut : Agreed → Standing → Standing → Type 0
+IsCut l before after = (bodies : List (List ℕ)) × (rest : List ℕ) × Stops l before after bodies rest
 
-  -- what is read, written and entered, by what `serve` answers
-  abbrev pub Leaves : Result Report ServeFault → Type 0
-  Leaves (Ok report) = Whole (λ bodies rest. (rest ≡ []) × IsAtEnd left × Reports t report bodies)
-  Leaves (Err Read) = Whole (λ bodies rest. Unit {0})
-  Leaves (Err BadHeader) = Whole (λ bodies rest. is_bad_header h rest ≡ true)
-  Leaves (Err CutFrame) =
-      Whole (λ bodies rest. (rest ≢ []) × IsAtEnd left × (is_bad_header h rest ≡ false))
-  Leaves (Err Write) = Cut
-  Leaves (Err Memory) = Cut
-  Leaves (Err TooManyTurns) = Cut
+-- what is read, written and entered, by what `serve` answers
+abbrev pub Leaves : Agreed → Standing → Standing → Result Report ServeFault → Type 0
+Leaves l before after (Ok report) = IsWhole l before after
+    (λ bodies rest. (rest ≡ []) × IsAtEnd after.unread × Reports l.table report bodies)
+Leaves l before after (Err Read) = IsWhole l before after (λ bodies rest. Unit {0})
+Leaves l before after (Err BadHeader) =
+    IsWhole l before after (λ bodies rest. is_bad_header l.header rest ≡ true)
+Leaves l before after (Err CutFrame) = IsWhole l before after
+    (λ bodies rest. (rest ≢ []) × IsAtEnd after.unread × (is_bad_header l.header rest ≡ false))
+Leaves l before after (Err Write) = IsCut l before after
+Leaves l before after (Err Memory) = IsCut l before after
+Leaves l before after (Err TooManyTurns) = IsCut l before after
 
 -- ---- flushing
+
+-- what is still to be read, the writer with its counts, and the books
+pub record Sending : Type 0 where
+  pub unread : Option (List ℕ)
+  pub writer : Stream
+  pub books : Books
+
+-- these bytes still to be read, this writer and these books
+abbrev pub sending : Option (List ℕ) → Stream → Books → Sending
+sending unread writer books = record { unread = unread; writer = writer; books = books }
+
+-- where serving stands, whatever the counts
+abbrev pub standing_of : Sending → Standing
+standing_of s = standing s.unread s.writer.bytes s.books
 
 -- no byte waits for a flush, or the writer wasn't called
 abbrev pub IsFlushed : Counts → Counts → Type 0
@@ -96,59 +120,55 @@ WaitsBehind old new less bytes =
     (length less + new.unflushed ≡ length bytes)
     ⊎ ((less ≡ []) × (new.unflushed ≡ old.unflushed + length bytes))
 
-module _ (t : Layout) (h : Header) (unread left held written : Option (List ℕ)) (old new : Books)
-    (sent_old sent_new : Counts) where
-  -- all answers but the last were flushed, and what was written of the last one waits for a flush
-  abbrev pub LastWaits : Type 0
-  LastWaits =
-      (bodies : List (List ℕ)) × (rest : List ℕ) × (bytes : List ℕ)
-      × (stopped : Stopped t h unread left held written old new bodies rest bytes)
-      × WaitsBehind sent_old sent_new stopped.less bytes
+-- all answers but the last were flushed, and what was written of the last one waits for a flush
+abbrev pub LastWaits : Agreed → Sending → Sending → Type 0
+LastWaits l before after =
+    (bodies : List (List ℕ)) × (rest : List ℕ)
+    × (stops : Stops l (standing_of before) (standing_of after) bodies rest)
+    × WaitsBehind before.writer.counts after.writer.counts stops.less stops.bytes
 
-  -- each answer was flushed before the next body was handled
-  abbrev pub Flushes : Result Report ServeFault → Type 0
-  Flushes (Ok report) = IsFlushed sent_old sent_new
-  Flushes (Err Read) = IsFlushed sent_old sent_new
-  Flushes (Err BadHeader) = IsFlushed sent_old sent_new
-  Flushes (Err CutFrame) = IsFlushed sent_old sent_new
-  Flushes (Err Memory) = IsFlushed sent_old sent_new
-  Flushes (Err Write) = LastWaits
-  Flushes (Err TooManyTurns) = IsFlushed sent_old sent_new ⊎ LastWaits
+-- no byte waits for a flush at the writer, or it wasn't called
+abbrev pub WriterIsFlushed : Sending → Sending → Type 0
+WriterIsFlushed before after = IsFlushed before.writer.counts after.writer.counts
+
+-- each answer was flushed before the next body was handled
+abbrev pub Flushes : Agreed → Sending → Sending → Result Report ServeFault → Type 0
+Flushes l before after (Ok report) = WriterIsFlushed before after
+Flushes l before after (Err Read) = WriterIsFlushed before after
+Flushes l before after (Err BadHeader) = WriterIsFlushed before after
+Flushes l before after (Err CutFrame) = WriterIsFlushed before after
+Flushes l before after (Err Memory) = WriterIsFlushed before after
+Flushes l before after (Err Write) = LastWaits l before after
+Flushes l before after (Err TooManyTurns) = WriterIsFlushed before after ⊎ LastWaits l before after
 
 -- ---- the turns
 
 -- the reads and writes together are at most so many
-abbrev pub WithinTurns : Counts → Counts → Counts → Counts → ℕ → Type 0
-WithinTurns reader_old reader_new writer_old writer_new turns =
-    reader_new.calls + writer_new.calls ≤ reader_old.calls + writer_old.calls + turns
+abbrev pub WithinTurns : Usage → Usage → ℕ → Type 0
+WithinTurns before after turns = after.reader.calls + after.writer.calls
+    ≤ before.reader.calls + before.writer.calls + turns
 
 -- ---- the cause of each end
 
 -- neither stream failed
-pub record NoFailure (reader_old reader_new writer_old writer_new : Counts) : Type 0 where
-  pub reader : reader_new.failures ≡ reader_old.failures
-  pub writer : writer_new.failures ≡ writer_old.failures
+pub record NoFailure (before after : Usage) : Type 0 where
+  pub reader : after.reader.failures ≡ before.reader.failures
+  pub writer : after.writer.failures ≡ before.writer.failures
 
 -- each turn was taken by a read or a write, and moved a byte
-pub record TookTurns (reader_old reader_new writer_old writer_new : Counts)
-    (turns : ℕ) : Type 0 where
-  pub calls : reader_new.calls + writer_new.calls ≡ reader_old.calls + writer_old.calls + turns
-  pub moved : turns + (reader_old.moved + writer_old.moved) ≤ reader_new.moved + writer_new.moved
+pub record UsesAllTurns (before after : Usage) (turns : ℕ) : Type 0 where
+  pub calls : after.reader.calls + after.writer.calls
+      ≡ before.reader.calls + before.writer.calls + turns
+  pub moved : turns + (before.reader.moved + before.writer.moved)
+      ≤ after.reader.moved + after.writer.moved
 
 -- a failure is told only where the stream failed, and every other answer only where neither did
-abbrev pub Cause : Counts → Counts → Counts → Counts → ℕ → Result Report ServeFault → Type 0
-Cause reader_old reader_new writer_old writer_new turns (Ok report) =
-    NoFailure reader_old reader_new writer_old writer_new
-Cause reader_old reader_new writer_old writer_new turns (Err Read) =
-    reader_old.failures < reader_new.failures
-Cause reader_old reader_new writer_old writer_new turns (Err Write) =
-    writer_old.failures < writer_new.failures
-Cause reader_old reader_new writer_old writer_new turns (Err BadHeader) =
-    NoFailure reader_old reader_new writer_old writer_new
-Cause reader_old reader_new writer_old writer_new turns (Err CutFrame) =
-    NoFailure reader_old reader_new writer_old writer_new
-Cause reader_old reader_new writer_old writer_new turns (Err Memory) =
-    NoFailure reader_old reader_new writer_old writer_new
-Cause reader_old reader_new writer_old writer_new turns (Err TooManyTurns) =
-    NoFailure reader_old reader_new writer_old writer_new
-    × TookTurns reader_old reader_new writer_old writer_new turns
+abbrev pub Cause : Usage → Usage → ℕ → Result Report ServeFault → Type 0
+Cause before after turns (Ok report) = NoFailure before after
+Cause before after turns (Err Read) = before.reader.failures < after.reader.failures
+Cause before after turns (Err Write) = before.writer.failures < after.writer.failures
+Cause before after turns (Err BadHeader) = NoFailure before after
+Cause before after turns (Err CutFrame) = NoFailure before after
+Cause before after turns (Err Memory) = NoFailure before after
+Cause before after turns (Err TooManyTurns) = NoFailure before after
+    × UsesAllTurns before after turns

@@ -10,7 +10,7 @@ use Rattle.iso_host.specs.Asking.{asked_of, orders_in}
 use Rattle.iso_host.specs.Entering.{books_after_bodies}
 use Rattle.iso_host.specs.Links.{Agreed}
 use Rattle.iso_host.specs.Output.{IsAnswer, IsOutput}
-use Rattle.iso_host.specs.Peers.{TakesPiece, Refuses}
+use Rattle.iso_host.specs.Peers.{OnePeer, TakesPiece, Refuses, one_peer, unfinished}
 use Rattle.iso_host.specs.declared.handled.Handled.{Handled}
 use Rattle.iso_host.specs.declared.peer.PeerFault.TheVariants.{Memory}
 
@@ -29,19 +29,20 @@ pub record Peers : Type 0 where
   pub out : ℕ → List ℕ
   pub books : Books
 
+-- the peer of this number
+abbrev pub peer_of : ℕ → Peers → OnePeer
+peer_of s peers = one_peer (peers.held s) peers.books (peers.out s)
+
 -- what `take` does to a peer of this link and to the books: without memory nothing is taken and nothing comes out
-abbrev pub Calls : Agreed → List ℕ → List ℕ → Books → Books → List ℕ → List ℕ → List ℕ
-    → Result (Option Handled) (Unit {0}) → Type 0
-Calls l held kept old new bytes out grown (Ok handled) =
-    TakesPiece l.table l.header held kept old new bytes out grown handled
-Calls l held kept old new bytes out grown (Err e) = (kept ≡ held) × (grown ≡ out)
-    × Refuses l.table l.header held old new bytes Memory
+abbrev pub Calls : Agreed → OnePeer → OnePeer → List ℕ → Result (Option Handled) (Unit {0}) → Type 0
+Calls l before after bytes (Ok handled) = TakesPiece l before after bytes handled
+Calls l before after bytes (Err e) = (after.held ≡ before.held) × (after.out ≡ before.out)
+    × Refuses (unfinished l before.held) before.books after.books bytes Memory
 
 -- a call leaves the other peers
 pub record Goes (links : ℕ → Agreed) (call : Call) (old new : Peers) : Type 0 where
-  pub calls : Calls (links call.peer) (old.held call.peer)
-      (new.held call.peer) old.books new.books call.bytes
-      (old.out call.peer) (new.out call.peer) call.result
+  pub calls : Calls (links call.peer) (peer_of call.peer old) (peer_of call.peer new)
+      call.bytes call.result
   pub others_held : (s : ℕ) → s ≢ call.peer → new.held s ≡ old.held s
   pub others_out : (s : ℕ) → s ≢ call.peer → new.out s ≡ old.out s
 
@@ -102,15 +103,24 @@ abbrev pub IsAnswerIf : Bool → Agreed → Books → List ℕ → List ℕ → 
 IsAnswerIf true l books body bytes = IsAnswer l.table l.header books body bytes
 IsAnswerIf false l books body bytes = bytes ≡ []
 
+-- what a host opens with: the link of each peer, and the books
+pub record Opening : Type 0 where
+  pub links : ℕ → Agreed
+  pub books : Books
+
+-- these links and these books
+abbrev pub opening : (ℕ → Agreed) → Books → Opening
+opening links books = record { links = links; books = books }
+
 -- what comes out of a peer for the bodies that were entered behind the earlier ones: the answers to its own, each at the
 -- books after all bodies that were entered before it
-abbrev pub IsShareFrom : (ℕ → Agreed) → Books → ℕ → List Entry → List Entry → List ℕ → Type 0
-IsShareFrom links books s earlier [] bytes = bytes ≡ []
-IsShareFrom links books s earlier (e ∷ entries) bytes =
+abbrev pub IsShareFrom : Opening → ℕ → List Entry → List Entry → List ℕ → Type 0
+IsShareFrom o s earlier [] bytes = bytes ≡ []
+IsShareFrom o s earlier (e ∷ entries) bytes =
     (first : List ℕ) × (others : List ℕ)
-    × IsAnswerIf ((e.peer == s) && e.answered) (links s)
-    (books_after_entries links books earlier) e.body first
-    × IsShareFrom links books s (earlier ++ e ∷ []) entries others × (bytes ≡ first ++ others)
+    × IsAnswerIf ((e.peer == s) && e.answered) (o.links s)
+    (books_after_entries o.links o.books earlier) e.body first
+    × IsShareFrom o s (earlier ++ e ∷ []) entries others × (bytes ≡ first ++ others)
 
 -- ---- the law
 
@@ -121,7 +131,7 @@ pub record Shares (links : ℕ → Agreed) (calls : List Call) (old new : Peers)
   pub frames : (s : ℕ)
       → Splits (links s).header (bytes_of s calls) (bodies_of s entries) (new.held s)
   pub books : new.books ≡ books_after_entries links old.books entries
-  pub out : (s : ℕ) → (bytes : List ℕ) × IsShareFrom links old.books s [] entries bytes
+  pub out : (s : ℕ) → (bytes : List ℕ) × IsShareFrom (opening links old.books) s [] entries bytes
       × (new.out s ≡ old.out s ++ bytes)
 
 -- however the bytes of the peers are cut and interleaved, and wherever memory runs out

@@ -14,11 +14,13 @@ ghost use Rattle.iso_host.specs.Asking.{message_in, orders_in};
 ghost use Rattle.iso_host.specs.Handling.{EntersOrKeeps};
 ghost use Rattle.iso_host.specs.Output.{IsFramed, outcome_for, outcome_of};
 ghost use Rattle.iso_host.specs.Gathering.{ReadsBody};
-ghost use Rattle.iso_host.specs.Hosting.{Answers, AnswersMessage, GrowsBy, IsHandled, IsHandledBy};
+ghost use Rattle.iso_host.specs.Hosting.{Answers, AnswersMessage, GrowsBy, IsHandled, IsHandledBy, replying};
+ghost use Rattle.iso_host.specs.Links.{agreed};
 
 use crate::handled::{BodyFault, Handled};
 use iso_issuer::laws::firsts_stay;
 use iso_issuer::{Issuer, Refused};
+use iso_order::codes::SYSTEM_MALFUNCTION;
 use iso_order::laws::{responses_are_short, responses_are_well_formed, responses_fit};
 use iso_order::{Answer, NoMemory, Order, Verdict, order_of, respond_into};
 use iso_parts::Mti;
@@ -152,7 +154,7 @@ fn answer_order(issuer: &mut Issuer, order: Order) -> Result<Answer, NoMemory>
     let _entries = issuer.len();
     match issuer.handle(order) {
         Ok(answer) => Ok(answer),
-        Err(Refused::Full) => Ok(Answer::only(96)),
+        Err(Refused::Full) => Ok(Answer::only(SYSTEM_MALFUNCTION)),
         Err(Refused::Memory) => Err(NoMemory),
     }
 }
@@ -227,8 +229,8 @@ pub fn answer_request(
     // Memory aside, the message's order enters the journal, up to its limit, and `out` grows by the
     // frame of the response, or by nothing where none is due.
     ensures answered { OnOk result
-        (AnswersMessage table.now header issuer.old issuer.new
-        (Some rooms.old.request) out.old.items out.new.items) }
+        (AnswersMessage (agreed table.now header) (replying issuer.old out.old.items)
+        (replying issuer.new out.new.items) (Some rooms.old.request)) }
     // Memory aside, what a log may tell is what came of the message.
     ensures handled { OnOk result (IsHandledBy issuer.old (verdict rooms.old.request) told.new) }
     // Without memory the issuer is as it was, or the order is entered, and
@@ -294,8 +296,8 @@ pub fn answer_body(
     requires ready { IsHostReady table.now }
     // Memory aside, the order that the body asks enters the journal, up to its limit, and `out`
     // grows by the frame of the response, or by nothing where none is due.
-    ensures answered { OnOk result
-        (Answers table.now header issuer.old issuer.new body.now out.old.items out.new.items) }
+    ensures answered { OnOk result (Answers (agreed table.now header)
+        (replying issuer.old out.old.items) (replying issuer.new out.new.items) body.now) }
     // Memory aside, what a log may tell is what came of the body.
     ensures handled { OnOk result (IsHandled table.now issuer.old body.now told.new) }
     // Without memory the issuer is as it was, or the order is entered, and the body has an answer.

@@ -2,7 +2,7 @@
 ghost use Rattle.std.specs.Prelude.{◌≡◌, IfOk, OnOk, OnErr};
 ghost use Rattle.iso_host.specs.Asking.{message_in};
 ghost use Rattle.iso_host.specs.Handling.{EntersOrKeeps};
-ghost use Rattle.iso_host.specs.Hosting.{Answers, IsHandled};
+ghost use Rattle.iso_host.specs.Hosting.{Answers, IsHandled, replying};
 
 use crate::answering::{Rooms, answer_body, no_rooms};
 use crate::handled::Handled;
@@ -65,8 +65,8 @@ impl Host {
     ) -> Result<Handled, NoMemory>
         // Memory aside, the order that the body asks enters the journal, up to its limit, and `out`
         // grows by the frame of the response, or by nothing where none is due.
-        ensures answered { OnOk result (Answers link.now.table link.now.header self.old self.new
-            body.now out.old.items out.new.items) }
+        ensures answered { OnOk result (Answers link.now
+            (replying self.old out.old.items) (replying self.new out.new.items) body.now) }
         // What a log may tell is what came of the body.
         ensures handled { IfOk result (IsHandled link.now.table self.old body.now) }
         // Without memory the issuer is as it was, or the order is entered, and has an answer.

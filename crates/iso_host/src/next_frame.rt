@@ -3,30 +3,59 @@ ghost use Rattle.std.specs.Prelude.{◌≡◌, [], OnOk};
 ghost use Rattle.std.specs.Io.KnownBytes.{Keeps, prepend_known};
 ghost use Rattle.iso_table.specs.HostReady.{IsHostReady};
 ghost use Rattle.iso_host.specs.Beginning.{held_of, IsBegun};
-ghost use Rattle.iso_host.specs.NextFrame.{AnswersFrame, Fills, SpendsOnNext};
-ghost use Rattle.iso_host.specs.Reading.{SpendsOnReads};
+ghost use Rattle.iso_host.specs.Counts.{stream};
+ghost use Rattle.iso_host.specs.Hosting.{replying};
+ghost use Rattle.iso_host.specs.Links.{agreed};
+ghost use Rattle.iso_host.specs.NextFrame.{AnswersFrame, Fills, SpendsOnNext, taking};
+ghost use Rattle.iso_host.specs.Reading.{SpendsOnReads, reading};
 ghost use Rattle.iso_host.specs.Turns.{TakesTurns};
 
-use crate::answering::Rooms;
+use crate::answering::{Rooms, no_rooms};
 use crate::fault::ServeFault;
 use crate::gathering::Gathering;
 use crate::handled::Handled;
 use crate::peer::PeerFault;
 use crate::streams::Inlet;
-use crate::taking::{Begun, head_len, take_bytes};
+use crate::taking::{Begun, NOT_BEGUN, head_len, take_bytes};
 use crate::window::Window;
 use iso_issuer::Issuer;
 use iso_table::Table;
 use iso_wire::Header;
 use iso_wire::laws::splits_once;
+use std::alloc::Global;
 
-/// What is held of a stream: the frame that has begun, the memory of messages, and the answers that aren't written yet.
+/// What is held of a stream: the bytes that were read and not yet taken, the frame that has begun, the memory of messages,
+/// the answers that aren't written yet, and what came of the last body.
 #[derive(Drop)]
 pub struct Line<'t> {
+    pub window: Window,
     pub begun: Begun,
     pub gathering: Gathering<'t>,
     pub rooms: Rooms,
     pub out: Vec<u8>,
+    pub told: Handled,
+}
+
+/// A line before its first byte, whose bodies are read under that table. Takes no memory.
+#[inline(always)]
+pub fn new_line<'t>(alloc: Global, table: &'t Table) -> Line<'t>
+    // No byte was read.
+    ensures window { result.window ≡ [] }
+    // No frame has begun.
+    ensures count { result.begun.count ≡ 0 }
+    // No body is awaited.
+    ensures left { result.begun.left ≡ 0 }
+    // The bodies are to be read under that table, and no byte of one came yet.
+    ensures gathering { result.gathering ≡ record { table = table.now; part = [] } }
+{
+    Line {
+        window: Window::new(),
+        begun: NOT_BEGUN,
+        gathering: Gathering::new(alloc, table),
+        rooms: no_rooms(alloc),
+        out: Vec::new(alloc),
+        told: Handled::Silent,
+    }
 }
 
 /// Sees that the window has a byte, if there is one.
@@ -36,8 +65,10 @@ fn fill<R: Inlet>(window: &mut Window, reader: &mut R, left: &mut u64) -> Result
         (prepend_known window.new (R.remaining reader.new)) }
     ensures bytes { Fills window.new (R.remaining reader.new) result }
     ensures turns { TakesTurns (R.counts reader.old) (R.counts reader.new) left.old left.new }
-    ensures spent { SpendsOnReads (R.counts reader.old) (R.counts reader.new) left.old left.new
-        window.old window.new 0 result }
+    ensures spent { SpendsOnReads
+        (reading window.old (stream (R.remaining reader.old) (R.counts reader.old)) left.old)
+        (reading window.new (stream (R.remaining reader.new) (R.counts reader.new)) left.new)
+        0 result }
 {
     if window.bytes().is_empty() {
         window.refill(reader, left)
@@ -53,10 +84,8 @@ pub fn next_frame<R: Inlet>(
     header: Header,
     line: &mut Line<'_>,
     issuer: &mut Issuer,
-    window: &mut Window,
     reader: &mut R,
     left: &mut u64,
-    told: &mut Handled,
 ) -> Result<bool, ServeFault>
     // A host can serve under the table.
     requires ready { IsHostReady table.now }
@@ -68,16 +97,21 @@ pub fn next_frame<R: Inlet>(
     requires none { held_of line.old.begun line.old.gathering.part ≡ [] }
     // One frame is taken and its body answered, or the input ends before it. At a fault some of it
     // may be taken, and only without memory may its order be entered.
-    ensures bytes { AnswersFrame table.now header
-        (prepend_known window.old (R.remaining reader.old))
-        (prepend_known window.new (R.remaining reader.new)) window.new (R.remaining reader.new)
-        issuer.old issuer.new line.old.out.items line.new.out.items told.new result }
+    ensures bytes { AnswersFrame (agreed table.now header)
+        (taking
+        (reading line.old.window (stream (R.remaining reader.old) (R.counts reader.old)) left.old)
+        (replying issuer.old line.old.out.items))
+        (taking
+        (reading line.new.window (stream (R.remaining reader.new) (R.counts reader.new)) left.new)
+        (replying issuer.new line.new.out.items)) line.new.told result }
     // Each read takes one of the turns that are left.
     ensures turns { TakesTurns (R.counts reader.old) (R.counts reader.new) left.old left.new }
     // `Read` comes only where the reader failed, `TooManyTurns` only where no turn is left. Where a
     // frame is taken, no read failed, and each gave a byte at least.
     ensures spent { SpendsOnNext
-        (R.counts reader.old) (R.counts reader.new) left.old left.new window.old window.new result }
+        (reading line.old.window (stream (R.remaining reader.old) (R.counts reader.old)) left.old)
+        (reading line.new.window (stream (R.remaining reader.new) (R.counts reader.new)) left.new)
+        result }
     // The line still reads its bodies under that table.
     ensures same { line.new.gathering.table ≡ table.now }
     // What the line holds then is the beginning of one frame.
@@ -88,7 +122,7 @@ pub fn next_frame<R: Inlet>(
     // the law that a header and fewer bytes than it counts need more, for the prover
     splits_once();
     'pieces: loop {
-        match fill(window, reader, left) {
+        match fill(&mut line.window, reader, left) {
             Err(ServeFault::CutFrame) if head_len(&line.begun) == 0 => return Ok(false),
             Err(fault) => return Err(fault),
             Ok(()) => {}
@@ -100,16 +134,16 @@ pub fn next_frame<R: Inlet>(
             &mut line.gathering,
             issuer,
             &mut line.rooms,
-            window.bytes(),
+            line.window.bytes(),
             &mut line.out,
-            told,
+            &mut line.told,
         );
         let step = match took {
             Err(PeerFault::BadHeader) => return Err(ServeFault::BadHeader),
             Err(PeerFault::Memory) => return Err(ServeFault::Memory),
             Ok(step) => step,
         };
-        window.pass(step.used);
+        line.window.pass(step.used);
         if step.ended {
             return Ok(true);
         }

@@ -1,6 +1,7 @@
 //! One peer's bytes, as they come: frames cut into pieces of any size.
 ghost use Rattle.std.specs.Prelude.{◌≡◌, ◌↔◌, [], true, IfOk, IfErr, OnErr};
-ghost use Rattle.iso_host.specs.Peers.{Takes, Refuses};
+ghost use Rattle.iso_host.specs.Links.{agreed};
+ghost use Rattle.iso_host.specs.Peers.{Takes, Refuses, one_peer};
 ghost use Rattle.iso_host.specs.Stepping.{taken_as};
 
 use crate::gathering::Gathering;
@@ -108,12 +109,11 @@ impl<'l> Peer<'l> {
         out: &mut Vec<u8>,
     ) -> Result<Taken, PeerFault>
         // The bytes stay behind those that were held, or they end a frame, whose body is entered and answered.
-        ensures took { IfOk result
-            (Takes self.old.table self.old.header self.old.held self.new.held host.old host.new
-            bytes.now out.old.items out.new.items) }
+        ensures took { IfOk result (Takes (agreed self.old.table self.old.header)
+            (one_peer self.old.held host.old out.old.items)
+            (one_peer self.new.held host.new out.new.items) bytes.now) }
         // Only a header that isn't of digits and want of memory are refused.
-        ensures refused { IfErr result
-            (Refuses self.old.table self.old.header self.old.held host.old host.new bytes.now) }
+        ensures refused { IfErr result (Refuses self.old host.old host.new bytes.now) }
         // The peer stays on its link.
         ensures table { self.new.table ≡ self.old.table }
         // The header of the peer's frames stays the same.

@@ -5,19 +5,18 @@ ghost use Rattle.iso_table.specs.Layout.{Layout};
 ghost use Rattle.iso_issuer.specs.Books.{Books};
 ghost use Rattle.iso_host.specs.Asking.{asked_of};
 ghost use Rattle.iso_host.specs.Hosting.{IsHandled};
-ghost use Rattle.iso_host.specs.Serving.{Leaves, Cause, Flushes, WithinTurns};
+ghost use Rattle.iso_host.specs.Counts.{stream, usage};
+ghost use Rattle.iso_host.specs.Links.{agreed};
+ghost use Rattle.iso_host.specs.Serving.{Leaves, Cause, Flushes, WithinTurns, sending, standing};
 ghost use Rattle.iso_host.specs.Reporting.{ReportsOneMore};
 ghost use Rattle.iso_host.specs.Answering.{FlushesAll, SpendsOnWrite, WritesBytes};
 ghost use Rattle.iso_host.specs.Turns.{TakesTurns};
 
-use crate::answering::{enters_nothing, no_rooms};
+use crate::answering::enters_nothing;
 use crate::fault::{Report, ServeFault};
-use crate::gathering::Gathering;
 use crate::handled::Handled;
-use crate::next_frame::{Line, next_frame};
+use crate::next_frame::{new_line, next_frame};
 use crate::streams::{Inlet, Outlet};
-use crate::taking::NOT_BEGUN;
-use crate::window::Window;
 use iso_issuer::Issuer;
 use iso_issuer::laws::firsts_go_on;
 use iso_table::Table;
@@ -35,8 +34,8 @@ const NO_FRAMES: Report = Report {
 
 /// Writes the bytes whole, and flushes. Each write takes one of the turns that are left.
 fn write_whole<W: Outlet>(writer: &mut W, bytes: &[u8], left: &mut u64) -> Result<(), ServeFault>
-    ensures written { WritesBytes (W.contents writer.old) (W.contents writer.new)
-        (W.counts writer.old) (W.counts writer.new) bytes.now result }
+    ensures written { WritesBytes (stream (W.contents writer.old) (W.counts writer.old))
+        (stream (W.contents writer.new) (W.counts writer.new)) bytes.now result }
     ensures turns { TakesTurns (W.counts writer.old) (W.counts writer.new) left.old left.new }
     ensures spent { SpendsOnWrite
         (W.counts writer.old) (W.counts writer.new) left.old left.new result }
@@ -62,8 +61,8 @@ fn write_whole<W: Outlet>(writer: &mut W, bytes: &[u8], left: &mut u64) -> Resul
 /// Writes the answer to a body, and flushes; an empty one is none, and the writer isn't called.
 #[inline(always)]
 fn write_answer<W: Outlet>(writer: &mut W, answer: &[u8], left: &mut u64) -> Result<(), ServeFault>
-    ensures written { WritesBytes (W.contents writer.old) (W.contents writer.new)
-        (W.counts writer.old) (W.counts writer.new) answer.now result }
+    ensures written { WritesBytes (stream (W.contents writer.old) (W.counts writer.old))
+        (stream (W.contents writer.new) (W.counts writer.new)) answer.now result }
     ensures turns { TakesTurns (W.counts writer.old) (W.counts writer.new) left.old left.new }
     ensures spent { SpendsOnWrite
         (W.counts writer.old) (W.counts writer.new) left.old left.new result }
@@ -119,18 +118,21 @@ pub fn serve<R: Inlet, W: Outlet>(
     requires { IsHostReady table.now }
     // At `Ok`, `Read`, `BadHeader` and `CutFrame` all whole frames are entered and answered; at
     // each other end the last answer may be missing or cut short.
-    ensures leaves { Leaves table.now header (R.remaining reader.old) (R.remaining reader.new)
-        (W.contents writer.old) (W.contents writer.new) issuer.old issuer.new result }
+    ensures leaves { Leaves (agreed table.now header)
+        (standing (R.remaining reader.old) (W.contents writer.old) issuer.old)
+        (standing (R.remaining reader.new) (W.contents writer.new) issuer.new) result }
     // Each answer is flushed: where it ends inside one, only what was written of that one waits for a flush.
-    ensures flushed { Flushes table.now header (R.remaining reader.old) (R.remaining reader.new)
-        (W.contents writer.old) (W.contents writer.new) issuer.old issuer.new
-        (W.counts writer.old) (W.counts writer.new) result }
+    ensures flushed { Flushes (agreed table.now header)
+        (sending (R.remaining reader.old) (stream (W.contents writer.old) (W.counts writer.old))
+        issuer.old)
+        (sending (R.remaining reader.new) (stream (W.contents writer.new) (W.counts writer.new))
+        issuer.new) result }
     // However it ends, the reads and writes together are at most `turns`.
-    ensures turns { WithinTurns (R.counts reader.old) (R.counts reader.new)
-        (W.counts writer.old) (W.counts writer.new) turns }
+    ensures turns { WithinTurns (usage (R.counts reader.old) (W.counts writer.old))
+        (usage (R.counts reader.new) (W.counts writer.new)) turns }
     // Each end has its cause in the counts of the two streams.
-    ensures cause { Cause (R.counts reader.old) (R.counts reader.new)
-        (W.counts writer.old) (W.counts writer.new) turns result }
+    ensures cause { Cause (usage (R.counts reader.old) (W.counts writer.old))
+        (usage (R.counts reader.new) (W.counts writer.new)) turns result }
 {
     // the laws of a journal that goes on, that bytes have one split into frames, and that without an order the books stay
     // as they are, for the prover
@@ -139,26 +141,10 @@ pub fn serve<R: Inlet, W: Outlet>(
     enters_nothing(issuer);
     let mut left = turns;
     let mut report = NO_FRAMES;
-    let mut window = Window::new();
-    let mut line = Line {
-        begun: NOT_BEGUN,
-        gathering: Gathering::new(alloc, table),
-        rooms: no_rooms(alloc),
-        out: Vec::new(alloc),
-    };
-    let mut told = Handled::Silent;
+    let mut line = new_line(alloc, table);
     'frames: loop {
         line.out.clear();
-        let read = next_frame(
-            table,
-            header,
-            &mut line,
-            issuer,
-            &mut window,
-            reader,
-            &mut left,
-            &mut told,
-        );
+        let read = next_frame(table, header, &mut line, issuer, reader, &mut left);
         let is_taken = match read {
             Err(fault) => return Err(fault),
             Ok(is_taken) => is_taken,
@@ -171,6 +157,6 @@ pub fn serve<R: Inlet, W: Outlet>(
             Err(failed) => return Err(failed),
             Ok(()) => {}
         }
-        count_frame(&mut report, &told);
+        count_frame(&mut report, &line.told);
     }
 }

@@ -4,8 +4,9 @@ ghost use Rattle.iso_table.specs.HostReady.{IsHostReady};
 ghost use Rattle.iso_host.specs.Asking.{message_in};
 ghost use Rattle.iso_host.specs.Beginning.{head_of, held_of, IsBegun, IsInBody, IsInHeader};
 ghost use Rattle.iso_host.specs.Handling.{EntersOrKeeps};
-ghost use Rattle.iso_host.specs.Hosting.{Answers, IsHandled};
-ghost use Rattle.iso_host.specs.Peers.{Takes, Refuses};
+ghost use Rattle.iso_host.specs.Hosting.{Answers, IsHandled, replying};
+ghost use Rattle.iso_host.specs.Links.{agreed};
+ghost use Rattle.iso_host.specs.Peers.{Takes, Refuses, one_peer, unfinished};
 ghost use Rattle.iso_host.specs.Stepping.{taken_as};
 
 use crate::answering::{Rooms, answer_body, answer_request, enters_nothing};
@@ -32,6 +33,24 @@ pub struct Step {
     pub used: usize,
     pub ended: bool,
 }
+
+/// Nothing is taken.
+const NO_BYTE: Step = Step {
+    used: 0,
+    ended: false,
+};
+
+/// One byte is taken, and ends no frame.
+const ONE_BYTE: Step = Step {
+    used: 1,
+    ended: false,
+};
+
+/// One byte is taken, the last of a frame.
+const LAST_BYTE: Step = Step {
+    used: 1,
+    ended: true,
+};
 
 /// No frame has begun.
 pub const NOT_BEGUN: Begun = Begun {
@@ -74,11 +93,13 @@ fn take_header_byte(
     requires ready { IsHostReady table.now }
     requires between { begun.old.left ≡ 0 }
     requires outside { IsInHeader header begun.old [] }
-    ensures took { IfOk result (λ step.
-        Takes table.now header (head_of begun.old) (head_of begun.new) issuer.old issuer.new
-        bytes.now out.old.items out.new.items (taken_as step told.new)) }
-    ensures refused { IfErr result
-        (Refuses table.now header (head_of begun.old) issuer.old issuer.new bytes.now) }
+    ensures took { IfOk result (λ step. Takes (agreed table.now header)
+        (one_peer (head_of begun.old) issuer.old out.old.items)
+        (one_peer (head_of begun.new) issuer.new out.new.items)
+        bytes.now (taken_as step told.new)) }
+    ensures refused { IfErr result (Refuses
+        (unfinished (agreed table.now header) (head_of begun.old))
+        issuer.old issuer.new bytes.now) }
     ensures begun { IsBegun header begun.new [] }
     ensures held { OnErr result (begun.new ≡ begun.old) }
     ensures unchanged { OnErr result (out.new.items ≡ out.old.items) }
@@ -86,32 +107,18 @@ fn take_header_byte(
     // the laws that a header and fewer bytes than it counts need more, and that a bad one stays so, for the prover
     splits_once();
     if bytes.is_empty() {
-        return Ok(Step {
-            used: 0,
-            ended: false,
-        });
+        return Ok(NO_BYTE);
     }
     let head = head_with(begun, bytes[0]);
     let count = begun.count + 1;
     let counted = body_length(header, &head[..count]);
     match counted {
         Err(_) => Err(PeerFault::BadHeader),
-        Ok(Some(length)) if length == 0 => match answer_body(
-            table,
-            header,
-            issuer,
-            rooms,
-            &[],
-            out,
-            told,
-        ) {
+        Ok(Some(n)) if n == 0 => match answer_body(table, header, issuer, rooms, &[], out, told) {
             Err(_) => Err(PeerFault::Memory),
             Ok(()) => {
                 begun.count = 0;
-                Ok(Step {
-                    used: 1,
-                    ended: true,
-                })
+                Ok(LAST_BYTE)
             }
         },
         Ok(length) => {
@@ -120,10 +127,7 @@ fn take_header_byte(
                 count,
                 left: length.unwrap_or(0),
             };
-            Ok(Step {
-                used: 1,
-                ended: false,
-            })
+            Ok(ONE_BYTE)
         }
     }
 }
@@ -158,11 +162,13 @@ fn take_first(
     requires ready { IsHostReady table.now }
     requires between { begun.old.left ≡ 0 }
     requires none { begun.old.count ≡ 0 }
-    ensures took { IfOk result (λ step.
-        Takes table.now header (head_of begun.old) (head_of begun.new) issuer.old issuer.new
-        bytes.now out.old.items out.new.items (taken_as step told.new)) }
-    ensures refused { IfErr result
-        (Refuses table.now header (head_of begun.old) issuer.old issuer.new bytes.now) }
+    ensures took { IfOk result (λ step. Takes (agreed table.now header)
+        (one_peer (head_of begun.old) issuer.old out.old.items)
+        (one_peer (head_of begun.new) issuer.new out.new.items)
+        bytes.now (taken_as step told.new)) }
+    ensures refused { IfErr result (Refuses
+        (unfinished (agreed table.now header) (head_of begun.old))
+        issuer.old issuer.new bytes.now) }
     ensures begun { IsBegun header begun.new [] }
     ensures held { OnErr result (begun.new ≡ begun.old) }
     ensures unchanged { OnErr result (out.new.items ≡ out.old.items) }
@@ -201,9 +207,9 @@ fn answer_last(
     requires same { gathering.old.table ≡ table.now }
     requires some { 0 < length piece.now }
     requires few { length gathering.old.part ≤ 65535 }
-    ensures answered { OnOk result
-        (Answers table.now header issuer.old issuer.new (gathering.old.part ++ piece.now)
-        out.old.items out.new.items) }
+    ensures answered { OnOk result (Answers (agreed table.now header)
+        (replying issuer.old out.old.items) (replying issuer.new out.new.items)
+        (gathering.old.part ++ piece.now)) }
     ensures handled { OnOk result
         (IsHandled table.now issuer.old (gathering.old.part ++ piece.now) told.new) }
     ensures memory { OnErr result (EntersOrKeeps table.now header issuer.old issuer.new
@@ -239,11 +245,13 @@ fn take_body(
     requires same { gathering.old.table ≡ table.now }
     requires more { 0 < begun.old.left }
     requires inside { IsInBody header begun.old gathering.old.part }
-    ensures took { IfOk result (λ step. Takes table.now header
-        (held_of begun.old gathering.old.part) (held_of begun.new gathering.new.part)
-        issuer.old issuer.new bytes.now out.old.items out.new.items (taken_as step told.new)) }
-    ensures refused { IfErr result (Refuses table.now header
-        (held_of begun.old gathering.old.part) issuer.old issuer.new bytes.now) }
+    ensures took { IfOk result (λ step. Takes (agreed table.now header)
+        (one_peer (held_of begun.old gathering.old.part) issuer.old out.old.items)
+        (one_peer (held_of begun.new gathering.new.part) issuer.new out.new.items)
+        bytes.now (taken_as step told.new)) }
+    ensures refused { IfErr result (Refuses
+        (unfinished (agreed table.now header) (held_of begun.old gathering.old.part))
+        issuer.old issuer.new bytes.now) }
     ensures begun { IsBegun header begun.new gathering.new.part }
     ensures held { OnErr result (begun.new ≡ begun.old) }
     ensures gathered { OnErr result (gathering.new.part ≡ gathering.old.part) }
@@ -265,21 +273,12 @@ fn take_body(
             }
         };
     }
-    match answer_last(
-        table,
-        header,
-        gathering,
-        issuer,
-        rooms,
-        &bytes[..left],
-        out,
-        told,
-    ) {
+    let last = &bytes[..left];
+    match answer_last(table, header, gathering, issuer, rooms, last, out, told) {
         Err(_) => Err(PeerFault::Memory),
         Ok(()) => {
             gathering.clear();
-            begun.count = 0;
-            begun.left = 0;
+            *begun = NOT_BEGUN;
             Ok(Step {
                 used: left,
                 ended: true,
@@ -309,13 +308,15 @@ pub fn take_bytes(
     requires begun { IsBegun header begun.old gathering.old.part }
     // At `Ok` the bytes stay behind those that were held, or they end a frame, whose
     // body is entered and answered.
-    ensures took { IfOk result (λ step. Takes table.now header
-        (held_of begun.old gathering.old.part) (held_of begun.new gathering.new.part)
-        issuer.old issuer.new bytes.now out.old.items out.new.items (taken_as step told.new)) }
+    ensures took { IfOk result (λ step. Takes (agreed table.now header)
+        (one_peer (held_of begun.old gathering.old.part) issuer.old out.old.items)
+        (one_peer (held_of begun.new gathering.new.part) issuer.new out.new.items)
+        bytes.now (taken_as step told.new)) }
     // A refusal is a header that isn't of digits, with the books as they were; or want of memory,
     // where the order of a frame's body may be entered.
-    ensures refused { IfErr result (Refuses table.now header
-        (held_of begun.old gathering.old.part) issuer.old issuer.new bytes.now) }
+    ensures refused { IfErr result (Refuses
+        (unfinished (agreed table.now header) (held_of begun.old gathering.old.part))
+        issuer.old issuer.new bytes.now) }
     // What is held then is the beginning of one frame.
     ensures begun { IsBegun header begun.new gathering.new.part }
     // A refusal leaves the header that has begun, and how much of the body is still to come.

@@ -2,7 +2,8 @@
 
 ghost use Rattle.std.specs.Prelude.{◌≡◌, ◌≤◌, [], length, drop};
 ghost use Rattle.std.specs.Io.KnownBytes.{Keeps, prepend_known};
-ghost use Rattle.iso_host.specs.Reading.{Refills, SpendsOnReads};
+ghost use Rattle.iso_host.specs.Counts.{stream};
+ghost use Rattle.iso_host.specs.Reading.{Refills, SpendsOnReads, reading};
 ghost use Rattle.iso_host.specs.Turns.{TakesTurns};
 
 use crate::fault::ServeFault;
@@ -73,8 +74,10 @@ impl Window {
         ensures turns { TakesTurns (R.counts reader.old) (R.counts reader.new) left.old left.new }
         // `Read` comes only where the reader failed, `TooManyTurns` only where no turn is left. At
         // `Ok` the read didn't fail, and gave a byte at least.
-        ensures spent { SpendsOnReads (R.counts reader.old) (R.counts reader.new) left.old left.new
-            self.old self.new 0 result }
+        ensures spent { SpendsOnReads
+            (reading self.old (stream (R.remaining reader.old) (R.counts reader.old)) left.old)
+            (reading self.new (stream (R.remaining reader.new) (R.counts reader.new)) left.new)
+            0 result }
     {
         if *left == 0 {
             return Err(ServeFault::TooManyTurns);

@@ -3,15 +3,16 @@ use Rattle.std.proofs.Common.{◌≡◌, ◌∙◌, ◌++◌, ℕ, refl, sym, ap
 use Rattle.std.specs.Prelude.{Option, Some, None, Result, Ok, Err, IfOk, IfErr, Bool}
 use Rattle.iso_table.specs.Layout.{Layout}
 use Rattle.iso_issuer.specs.Books.{Books}
+use Rattle.iso_host.specs.Links.{agreed}
 use Rattle.iso_host.specs.Entering.{books_after_bodies, BodiesGoOn, StaysWithout}
 use Rattle.iso_host.specs.Handling.{books_after_body}
-use Rattle.iso_host.specs.Peers.{Unfinished}
+use Rattle.iso_host.specs.Peers.{Unfinished, one_peer}
 use Rattle.iso_host.specs.declared.peer.Taken.{Taken}
 use Rattle.iso_host.specs.declared.handled.Handled.{Handled}
 use Rattle.iso_host.specs.Peers.{TakesPiece}
 use Rattle.iso_wire.specs.declared.header.Header.{Header}
-use Rattle.iso_peers.specs.Connection.{Connected}
-use Rattle.iso_peers.specs.Turn.{TakesOf, RefusesTurn}
+use Rattle.iso_peers.specs.Connection.{ConnectionState}
+use Rattle.iso_peers.specs.Turn.{TakesOf, RefusesTurn, at_books, books_change}
 use Rattle.iso_peers.specs.declared.fault.TurnFault.{TurnFault}
 use Rattle.iso_peers.specs.declared.fault.TurnFault.TheVariants.{Log, BadHeader, Memory}
 use Rattle.iso_guard.specs.Guarding.{EntersAllowed}
@@ -59,25 +60,25 @@ allowed_heard acquirers t old new law without enters = bodies_heard t enters.bod
 
 -- ---- a piece
 
-piece_heard : (t : Layout) (h : Header) (held kept : List ℕ) (old new : Books) (piece out grown : List ℕ) (handled : Option Handled) → TakesPiece t h held kept old new piece out grown handled
+piece_heard : (t : Layout) (h : Header) (held kept : List ℕ) (old new : Books) (piece out grown : List ℕ) (handled : Option Handled) → TakesPiece (agreed t h) (one_peer held old out) (one_peer kept new grown) piece handled
     → EntersHeard old new
 piece_heard t h held kept old new piece out grown None took = same_heard old new took.2
 piece_heard t h held kept old new piece out grown (Some handled) took = one_heard t old new took.0 took.4.0
 
-refused_heard : (failed : Bool) (p : Unfinished) (old new : Books) (bytes : List ℕ) (why : TurnFault) → RefusesTurn failed p old new bytes why → EntersHeard old new
+refused_heard : (failed : Bool) (p : Unfinished) (old new : Books) (bytes : List ℕ) (why : TurnFault) → RefusesTurn failed p (books_change old new) bytes why → EntersHeard old new
 refused_heard failed p old new bytes Log refused = same_heard old new refused.1
 refused_heard failed p old new bytes BadHeader refused = same_heard old new refused.1.0
 refused_heard failed p old new bytes Memory (sound, inl same) = same_heard old new same
 refused_heard failed p old new bytes Memory (sound, inr wants) = one_heard p.table old new wants.0 wants.4.0
 
 -- however taking a piece ends
-pub take_heard : (failed : Bool) (before after : Connected) (old new : Books) (bytes : List ℕ) (r : Result Taken TurnFault)
-    → IfOk r (TakesOf before after old new bytes) → IfErr r (RefusesTurn failed before.peer old new bytes) → EntersHeard old new
+pub take_heard : (failed : Bool) (before after : ConnectionState) (old new : Books) (bytes : List ℕ) (r : Result Taken TurnFault)
+    → IfOk r (TakesOf (at_books before old) (at_books after new) bytes) → IfErr r (RefusesTurn failed before.peer (books_change old new) bytes) → EntersHeard old new
 take_heard failed before after old new bytes (Ok taken) took refused =
     piece_heard before.peer.table before.peer.header before.peer.held after.peer.held old new _ before.waiting after.waiting taken.handled took.piece
 take_heard failed before after old new bytes (Err why) took refused = refused_heard failed before.peer old new bytes why refused
 
 -- the pieces so far
-pub so_heard : (t : Layout) (h : Header) (before after : Connected) (old new : Books) (bytes : List ℕ) → BodiesGoOn → StaysWithout old → SoFar t h before after old new bytes
+pub so_heard : (t : Layout) (h : Header) (before after : ConnectionState) (old new : Books) (bytes : List ℕ) → BodiesGoOn → StaysWithout old → SoFar t h before after old new bytes
     → EntersHeard old new
 so_heard t h before after old new bytes law without so = bodies_heard t so.bodies old new law (without t) so.books

@@ -1,5 +1,8 @@
-mod Bodies
+mod GuardedLines
 mod Heard
 mod Keys
 mod Pieces
+mod PlainLines
+mod Reading
+mod Taken
 mod Turns

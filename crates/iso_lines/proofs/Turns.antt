@@ -20,7 +20,7 @@ use Rattle.iso_lines.specs.declared.standing.Standing.{Standing}
 use Rattle.iso_lines.specs.Standing.{closing_of, doing_of, doing_by, staying_of}
 use Rattle.iso_lines.specs.Guarded.{guard_at}
 use Rattle.iso_lines.specs.Keys.{peer_at, looked_at, OthersStay, AllStay}
-use Rattle.iso_lines.specs.Hearing.{Arrival, books_after_arrival, books_after_arrivals, bodies_of, InTurn, IsShare, AreAnswers, IsHeard, Dealing, dealing_of, IsHeardAs, HearsBytes, HearsAlone, HearsOwn, ReadsAt, HearsAt, HearsFirst}
+use Rattle.iso_lines.specs.Hearing.{Arrival, books_after_arrival, books_after_arrivals, bodies_of, InTurn, IsShare, AreAnswers, IsHeard, Dealing, dealing_of, Sender, sender, Keeping, keeping, Coming, coming, Growth, growth, kept_of, IsHeardAs, HearsBytes, HearsAlone, HearsOwn, ReadsAt, HearsAt, HearsFirst}
 
 -- ---- lists that grow
 
@@ -120,7 +120,7 @@ reads_on l s now reads = by_closing (closing_of l s now) reads
 
 -- none of its own frames comes
 pub still_heard : (key : ℕ) (g : Guard) (held out : List ℕ) (e : Option Closing) (b : Books) (ys : List Arrival) → bodies_of key ys ≡ [] → AreAnswers key g b ys []
-    → IsHeard key g held held out out e e b [] ys
+    → IsHeard (sender key g) (keeping held out e) (keeping held out e) (coming b ys) []
 still_heard key g held out e b ys none are = record {
   rest = held;
   front = append-nil held ∙ ap (λ (l : List (List ℕ)). frames_of g.header l ++ held) (sym none);
@@ -135,8 +135,9 @@ still_heard key g held out e b ys none are = record {
 
 -- bytes, and then more
 pub heard_more : (key : ℕ) (g : Guard) (h0 h1 h2 o0 o1 o2 : List ℕ) (e0 e1 e2 : Option Closing) (b : Books) (x y : List ℕ) (xs ys : List Arrival)
-    → IsHeard key g h0 h1 o0 o1 e0 e1 b x xs → IsHeard key g h1 h2 o1 o2 e1 e2 (books_after_arrivals b xs) y ys
-    → IsHeard key g h0 h2 o0 o2 e0 e2 b (x ++ y) (xs ++ ys)
+    → IsHeard (sender key g) (keeping h0 o0 e0) (keeping h1 o1 e1) (coming b xs) x
+    → IsHeard (sender key g) (keeping h1 o1 e1) (keeping h2 o2 e2) (coming (books_after_arrivals b xs) ys) y
+    → IsHeard (sender key g) (keeping h0 o0 e0) (keeping h2 o2 e2) (coming b (xs ++ ys)) (x ++ y)
 heard_more key g h0 h1 h2 o0 o1 o2 e0 None e2 b x y xs ys first second = record {
   rest = second.rest;
   front = sym (append_assoc h0 x y) ∙ ap (λ (l : List ℕ). l ++ y) first.front ∙ append_assoc (frames_of g.header (bodies_of key xs)) first.rest y
@@ -170,10 +171,10 @@ heard_more key g h0 h1 h2 o0 o1 o2 e0 (Some over) e2 b x y xs ys first second =
 
 -- the same of a peer
 pub heard_twice : (key : ℕ) (d e f : Dealing) (b : Books) (x y : List ℕ) (xs ys : List Arrival) → e.line ≡ d.line
-    → IsHeardAs key d e b x xs → IsHeardAs key e f (books_after_arrivals b xs) y ys → IsHeardAs key d f b (x ++ y) (xs ++ ys)
+    → IsHeardAs key d e (coming b xs) x → IsHeardAs key e f (coming (books_after_arrivals b xs) ys) y → IsHeardAs key d f (coming b (xs ++ ys)) (x ++ y)
 heard_twice key d e f b x y xs ys line first second =
     heard_more key (guard_at d.line) d.held e.held f.held d.waiting e.waiting f.waiting d.ended e.ended f.ended b x y xs ys first
-    (subst (λ (l : Line). IsHeard key (guard_at l) e.held f.held e.waiting f.waiting e.ended f.ended (books_after_arrivals b xs) y ys) line second)
+    (subst (λ (l : Line). IsHeard (sender key (guard_at l)) (kept_of e) (kept_of f) (coming (books_after_arrivals b xs) ys) y) line second)
 
 -- the order of the peers goes on by one
 order_more : (keys : List ℕ) (key : ℕ) (xs ys : List Arrival) → InTurn keys xs → AllByRecursion (λ a. a.key ≡ key) ys → InTurn (keys ++ key ∷ []) (xs ++ ys)
@@ -190,7 +191,7 @@ module _ {S : Type 0} (remaining : S → Option (List ℕ)) where
   -- ---- a peer alone
 
   -- it isn't read from
-  pub reads_none : (key : ℕ) (p : Peer S) (b : Books) → HearsAlone remaining key p p b b
+  pub reads_none : (key : ℕ) (p : Peer S) (b : Books) → HearsAlone remaining key p p (growth b b)
   reads_none key p b = record {
     bytes = [];
     given = gives_none (remaining p.stream);
@@ -204,11 +205,12 @@ module _ {S : Type 0} (remaining : S → Option (List ℕ)) where
   }
 
   -- it is, and then again
-  pub reads_more : (key : ℕ) (p q r : Peer S) (b0 b1 b2 : Books) → HearsAlone remaining key p q b0 b1 → HearsAlone remaining key q r b1 b2 → HearsAlone remaining key p r b0 b2
+  pub reads_more : (key : ℕ) (p q r : Peer S) (b0 b1 b2 : Books) → HearsAlone remaining key p q (growth b0 b1) → HearsAlone remaining key q r (growth b1 b2)
+      → HearsAlone remaining key p r (growth b0 b2)
   reads_more key p q r b0 b1 b2 first second =
       let xs = first.hears.arrivals in
       let ys = second.hears.arrivals in
-      let at_books = subst (λ (b : Books). IsHeardAs key (dealing_of q) (dealing_of r) b second.bytes ys) first.hears.entered second.hears.heard in
+      let at_books = subst (λ (b : Books). IsHeardAs key (dealing_of q) (dealing_of r) (coming b ys) second.bytes) first.hears.entered second.hears.heard in
       record {
         bytes = first.bytes ++ second.bytes;
         given = gives_more (remaining p.stream) (remaining q.stream) (remaining r.stream) first.bytes second.bytes first.given second.given;
@@ -227,8 +229,8 @@ module _ {S : Type 0} (remaining : S → Option (List ℕ)) where
 
   -- ---- the peer under a key, among the others
 
-  own_twice : (k : ℕ) (p q r : Peer S) (b : Books) (xs ys : List Arrival) → HearsOwn remaining k p q b xs → HearsOwn remaining k q r (books_after_arrivals b xs) ys
-      → HearsOwn remaining k p r b (xs ++ ys)
+  own_twice : (k : ℕ) (p q r : Peer S) (b : Books) (xs ys : List Arrival) → HearsOwn remaining k p q (coming b xs) → HearsOwn remaining k q r (coming (books_after_arrivals b xs) ys)
+      → HearsOwn remaining k p r (coming b (xs ++ ys))
   own_twice k p q r b xs ys first second =
       record {
         bytes = first.bytes ++ second.bytes;
@@ -237,16 +239,16 @@ module _ {S : Type 0} (remaining : S → Option (List ℕ)) where
         heard = heard_twice k (dealing_of p) (dealing_of q) (dealing_of r) b first.bytes second.bytes xs ys first.line first.heard second.heard;
       }
 
-  at_twice : (k : ℕ) (o p q : Option (Peer S)) (b : Books) (xs ys : List Arrival) → HearsAt remaining k o p b xs → HearsAt remaining k p q (books_after_arrivals b xs) ys
-      → HearsAt remaining k o q b (xs ++ ys)
+  at_twice : (k : ℕ) (o p q : Option (Peer S)) (b : Books) (xs ys : List Arrival) → HearsAt remaining k o p (coming b xs) → HearsAt remaining k p q (coming (books_after_arrivals b xs) ys)
+      → HearsAt remaining k o q (coming b (xs ++ ys))
   at_twice k None p q b xs ys first second =
-      let none = subst (λ (m : Option (Peer S)). HearsAt remaining k m q (books_after_arrivals b xs) ys) first.0 second in
+      let none = subst (λ (m : Option (Peer S)). HearsAt remaining k m q (coming (books_after_arrivals b xs) ys)) first.0 second in
       (none.0, bodies_go_on k xs ys ∙ ap (λ (l : List (List ℕ)). l ++ bodies_of k ys) first.1 ∙ none.1)
   at_twice k (Some o) None q b xs ys first second = absurd first
   at_twice k (Some o) (Some p) None b xs ys first second = absurd second
   at_twice k (Some o) (Some p) (Some q) b xs ys first second = own_twice k o p q b xs ys first second
 
-  at_other : (k key : ℕ) (o : Option (Peer S)) (b : Books) (ys : List Arrival) → k ≢ key → AllByRecursion (λ a. a.key ≡ key) ys → HearsAt remaining k o o b ys
+  at_other : (k key : ℕ) (o : Option (Peer S)) (b : Books) (ys : List Arrival) → k ≢ key → AllByRecursion (λ a. a.key ≡ key) ys → HearsAt remaining k o o (coming b ys)
   at_other k key None b ys other own = (refl, bodies_other key k ys other own)
   at_other k key (Some p) b ys other own = record {
     bytes = [];
@@ -261,9 +263,9 @@ module _ {S : Type 0} (remaining : S → Option (List ℕ)) where
     arrivals : List Arrival
     own : AllByRecursion (λ a. a.key ≡ key) arrivals
     entered : after ≡ books_after_arrivals before arrivals
-    at : HearsAt remaining key o p before arrivals
+    at : HearsAt remaining key o p (coming before arrivals)
 
-  own_of : (key : ℕ) (o p : Option (Peer S)) (before after : Books) → ReadsAt remaining key o p before after → Own key o p before after
+  own_of : (key : ℕ) (o p : Option (Peer S)) (before after : Books) → ReadsAt remaining key o p (growth before after) → Own key o p before after
   own_of key None p before after reads = record { arrivals = []; own = tt; entered = reads.1; at = (reads.0, refl) }
   own_of key (Some o) None before after reads = absurd reads
   own_of key (Some o) (Some p) before after reads = record {
@@ -276,10 +278,10 @@ module _ {S : Type 0} (remaining : S → Option (List ℕ)) where
   -- ---- a turn
 
   -- none was read from
-  pub turn_none : (old new : Peers S) (b : Books) → AllStay old new → HearsFirst remaining 0 old new b b
+  pub turn_none : (old new : Peers S) (b : Books) → AllStay old new → HearsFirst remaining 0 old new (growth b b)
   turn_none old new b stay = record { arrivals = []; entered = refl; order = refl; peers = λ k. same k (peer_at old k) (peer_at new k) (stay k) }
     where
-      as_it_was : (k : ℕ) (o : Option (Peer S)) → HearsAt remaining k o o b []
+      as_it_was : (k : ℕ) (o : Option (Peer S)) → HearsAt remaining k o o (coming b [])
       as_it_was k None = (refl, refl)
       as_it_was k (Some p) = record {
         bytes = [];
@@ -288,13 +290,13 @@ module _ {S : Type 0} (remaining : S → Option (List ℕ)) where
         heard = still_heard k (guard_at (dealing_of p).line) (dealing_of p).held (dealing_of p).waiting (dealing_of p).ended b [] refl refl;
       }
 
-      same : (k : ℕ) (o n : Option (Peer S)) → n ≡ o → HearsAt remaining k o n b []
-      same k o n is = subst (λ (m : Option (Peer S)). HearsAt remaining k o m b []) (sym is) (as_it_was k o)
+      same : (k : ℕ) (o n : Option (Peer S)) → n ≡ o → HearsAt remaining k o n (coming b [])
+      same k o n is = subst (λ (m : Option (Peer S)). HearsAt remaining k o m (coming b [])) (sym is) (as_it_was k o)
 
   -- one more is
-  pub turn_more : (old mid new : Peers S) (b0 b1 b2 : Books) (place key : ℕ) → HearsFirst remaining place old mid b0 b1 → OthersStay key mid new
-      → ReadsAt remaining key (peer_at mid key) (peer_at new key) b1 b2 → place < length (looked_at old) → slice_index_or (looked_at old) place key ≡ key
-      → HearsFirst remaining (place + 1) old new b0 b2
+  pub turn_more : (old mid new : Peers S) (b0 b1 b2 : Books) (place key : ℕ) → HearsFirst remaining place old mid (growth b0 b1) → OthersStay key mid new
+      → ReadsAt remaining key (peer_at mid key) (peer_at new key) (growth b1 b2) → place < length (looked_at old) → slice_index_or (looked_at old) place key ≡ key
+      → HearsFirst remaining (place + 1) old new (growth b0 b2)
   turn_more old mid new b0 b1 b2 place key turn others reads within here =
       let one : take (place + 1) (looked_at old) ≡ take place (looked_at old) ++ key ∷ [] =
       take_more (looked_at old) place key within ∙ ap (λ (k : ℕ). take place (looked_at old) ++ k ∷ []) here in
@@ -308,13 +310,13 @@ module _ {S : Type 0} (remaining : S → Option (List ℕ)) where
         peers = λ k. by_key turn others step k (eqb_tells k key);
       }
     where
-      by_key : (turn : HearsFirst remaining place old mid b0 b1) → OthersStay key mid new → (step : Own key (peer_at mid key) (peer_at new key) b1 b2) → (k : ℕ)
-          → ((eqb k key ≡ true) × (k ≡ key)) ⊎ ((eqb k key ≡ false) × (k ≢ key)) → HearsAt remaining k (peer_at old k) (peer_at new k) b0 (turn.arrivals ++ step.arrivals)
+      by_key : (turn : HearsFirst remaining place old mid (growth b0 b1)) → OthersStay key mid new → (step : Own key (peer_at mid key) (peer_at new key) b1 b2) → (k : ℕ)
+          → ((eqb k key ≡ true) × (k ≡ key)) ⊎ ((eqb k key ≡ false) × (k ≢ key)) → HearsAt remaining k (peer_at old k) (peer_at new k) (coming b0 (turn.arrivals ++ step.arrivals))
       by_key turn others step k (inl (test, is)) =
-          subst (λ (n : ℕ). HearsAt remaining n (peer_at old n) (peer_at new n) b0 (turn.arrivals ++ step.arrivals)) (sym is)
+          subst (λ (n : ℕ). HearsAt remaining n (peer_at old n) (peer_at new n) (coming b0 (turn.arrivals ++ step.arrivals))) (sym is)
           (at_twice key (peer_at old key) (peer_at mid key) (peer_at new key) b0 turn.arrivals step.arrivals (turn.peers key)
-          (subst (λ (b : Books). HearsAt remaining key (peer_at mid key) (peer_at new key) b step.arrivals) turn.entered step.at))
+          (subst (λ (b : Books). HearsAt remaining key (peer_at mid key) (peer_at new key) (coming b step.arrivals)) turn.entered step.at))
       by_key turn others step k (inr (test, not)) =
           at_twice k (peer_at old k) (peer_at mid k) (peer_at new k) b0 turn.arrivals step.arrivals (turn.peers k)
-          (subst (λ (o : Option (Peer S)). HearsAt remaining k (peer_at mid k) o (books_after_arrivals b0 turn.arrivals) step.arrivals) (sym (others k not))
+          (subst (λ (o : Option (Peer S)). HearsAt remaining k (peer_at mid k) o (coming (books_after_arrivals b0 turn.arrivals) step.arrivals)) (sym (others k not))
           (at_other k key (peer_at mid k) (books_after_arrivals b0 turn.arrivals) step.arrivals not step.own))

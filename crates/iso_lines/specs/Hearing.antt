@@ -8,8 +8,8 @@ use Rattle.iso_durable.specs.declared.log.LogFailed.{LogFailed}
 use Rattle.iso_host.specs.declared.peer.PeerFault.{PeerFault}
 use Rattle.iso_host.specs.declared.peer.PeerFault.TheVariants as fault
 use Rattle.iso_peers.specs.declared.turn.Turned.{Turned}
-use Rattle.iso_peers.specs.Connection.{Connected}
-use Rattle.iso_guard.specs.Guarding.{Guard, Guarded}
+use Rattle.iso_peers.specs.Connection.{ConnectionState}
+use Rattle.iso_guard.specs.Guarding.{Guard, GuardedState}
 use Rattle.iso_guard.specs.Entering.{books_after_guarded}
 use Rattle.iso_guard.specs.Answering.{IsGuardedAnswer}
 use Rattle.iso_lines.specs.declared.line.Line.{Line}
@@ -75,21 +75,60 @@ AreAnswers key line books (a ∷ later) bytes =
 
 -- ---- one peer
 
--- bytes came of a peer of this line, which held some: its frames are those at the front of all these bytes, and their
--- answers wait behind the others. Unless it ended, no more is left than what it holds, and no whole frame begins there; once
--- it has ended, none of its frames comes
-pub record IsHeard (key : ℕ) (line : Guard) (held kept out grown : List ℕ)
-    (before after : Option Closing) (books : Books) (bytes : List ℕ)
-    (arrivals : List Arrival) : Type 0 where
+-- who sends: the key of a peer, and its line
+pub record Sender : Type 0 where
+  pub key : ℕ
+  pub line : Guard
+
+-- this peer of this line
+abbrev pub sender : ℕ → Guard → Sender
+sender key line = record { key = key; line = line }
+
+-- what is kept of a peer: the bytes of its frame that isn't whole, those of its answers that aren't written, and why nothing
+-- more comes of it
+pub record Keeping : Type 0 where
+  pub held : List ℕ
+  pub waiting : List ℕ
+  pub ended : Option Closing
+
+-- these bytes, these answers and this end
+abbrev pub keeping : List ℕ → List ℕ → Option Closing → Keeping
+keeping held waiting ended = record { held = held; waiting = waiting; ended = ended }
+
+-- frames that came, whosever they are, and the books before them
+pub record Coming : Type 0 where
+  pub books : Books
+  pub arrivals : List Arrival
+
+-- these frames at these books
+abbrev pub coming : Books → List Arrival → Coming
+coming books arrivals = record { books = books; arrivals = arrivals }
+
+-- the books before and after
+pub record Growth : Type 0 where
+  pub before : Books
+  pub after : Books
+
+-- from these books to those
+abbrev pub growth : Books → Books → Growth
+growth before after = record { before = before; after = after }
+
+-- bytes came of a peer, of which some were kept: its frames are those at the front of all these bytes, and their answers
+-- wait behind the others. Unless it ended, no more is left than what is kept of it, and no whole frame begins there; once it
+-- has ended, none of its frames comes
+pub record IsHeard (who : Sender) (before after : Keeping) (came : Coming) (bytes : List ℕ)
+    : Type 0 where
   pub rest : List ℕ
-  pub front : held ++ bytes ≡ frames_of line.header (bodies_of key arrivals) ++ rest
-  pub fit : AllFit line.header (bodies_of key arrivals)
+  pub front : before.held ++ bytes
+      ≡ frames_of who.line.header (bodies_of who.key came.arrivals) ++ rest
+  pub fit : AllFit who.line.header (bodies_of who.key came.arrivals)
   pub answers : List ℕ
-  pub are : AreAnswers key line books arrivals answers
-  pub waits : grown ≡ out ++ answers
-  pub stays : after ≡ None → (before ≡ None) × (rest ≡ kept)
-  pub whole : after ≡ None → NoFrame line.header held → NoFrame line.header kept
-  pub over : (why : Closing) → before ≡ Some why → bodies_of key arrivals ≡ []
+  pub are : AreAnswers who.key who.line came.books came.arrivals answers
+  pub waits : after.waiting ≡ before.waiting ++ answers
+  pub stays : after.ended ≡ None → (before.ended ≡ None) × (rest ≡ after.held)
+  pub whole : after.ended ≡ None → NoFrame who.line.header before.held
+      → NoFrame who.line.header after.held
+  pub over : (why : Closing) → before.ended ≡ Some why → bodies_of who.key came.arrivals ≡ []
 
 -- a peer whose bytes were taken, or weren't, for this reason: whether it ended
 abbrev pub ended_of : Option Closing → Option PeerFault → Option Closing
@@ -119,25 +158,28 @@ pub record Dealing : Type 0 where
   pub ended : Option Closing
 
 -- the same of its buffers, of which a guarded line has its own
-abbrev pub dealing_by : Bool → Line → Connected → Guarded → Option Closing → Dealing
+abbrev pub dealing_by : Bool → Line → ConnectionState → GuardedState → Option Closing → Dealing
 dealing_by true line direct guarded ended =
     record { line = line; held = guarded.held; waiting = guarded.waiting; ended = ended }
 dealing_by false line direct guarded ended =
     record { line = line; held = direct.peer.held; waiting = direct.waiting; ended = ended }
 
+-- what is kept of the peer by this
+abbrev pub kept_of : Dealing → Keeping
+kept_of d = keeping d.held d.waiting d.ended
+
 -- a peer is heard
-abbrev pub IsHeardAs : ℕ → Dealing → Dealing → Books → List ℕ → List Arrival → Type 0
-IsHeardAs key d e books bytes arrivals = IsHeard key
-    (guard_at d.line) d.held e.held d.waiting e.waiting d.ended e.ended books bytes arrivals
+abbrev pub IsHeardAs : ℕ → Dealing → Dealing → Coming → List ℕ → Type 0
+IsHeardAs key d e came bytes =
+    IsHeard (sender key (guard_at d.line)) (kept_of d) (kept_of e) came bytes
 
 -- a peer alone gave these bytes
-pub record HearsBytes (key : ℕ) (d e : Dealing) (before after : Books)
-    (bytes : List ℕ) : Type 0 where
+pub record HearsBytes (key : ℕ) (d e : Dealing) (books : Growth) (bytes : List ℕ) : Type 0 where
   pub arrivals : List Arrival
   pub own : AllByRecursion (λ a. a.key ≡ key) arrivals
-  pub entered : after ≡ books_after_arrivals before arrivals
+  pub entered : books.after ≡ books_after_arrivals books.before arrivals
   pub line : e.line ≡ d.line
-  pub heard : IsHeardAs key d e before bytes arrivals
+  pub heard : IsHeardAs key d e (coming books.before arrivals) bytes
 
 module _ {S : Type 0} where
   -- what a peer is heard by, of all that it has
@@ -154,30 +196,29 @@ module _ {S : Type 0} where
 
   module _ (remaining : S → Option (List ℕ)) where
     -- a peer alone is read from: the bytes are those that its stream gave
-    pub record HearsAlone (key : ℕ) (p q : Peer S) (before after : Books) : Type 0 where
+    pub record HearsAlone (key : ℕ) (p q : Peer S) (books : Growth) : Type 0 where
       pub bytes : List ℕ
       pub given : Consumes (remaining p.stream) (remaining q.stream) bytes
-      pub hears : HearsBytes key (dealing_of p) (dealing_of q) before after bytes
+      pub hears : HearsBytes key (dealing_of p) (dealing_of q) books bytes
 
     -- what a turn hears of one peer among all these frames: the bytes that its stream gave have its own
-    pub record HearsOwn (key : ℕ) (p q : Peer S) (before : Books)
-        (arrivals : List Arrival) : Type 0 where
+    pub record HearsOwn (key : ℕ) (p q : Peer S) (came : Coming) : Type 0 where
       pub bytes : List ℕ
       pub given : Consumes (remaining p.stream) (remaining q.stream) bytes
       pub line : (dealing_of q).line ≡ (dealing_of p).line
-      pub heard : IsHeardAs key (dealing_of p) (dealing_of q) before bytes arrivals
+      pub heard : IsHeardAs key (dealing_of p) (dealing_of q) came bytes
 
     -- the peer under a key alone is read from, if there is one
-    abbrev pub ReadsAt : ℕ → Option (Peer S) → Option (Peer S) → Books → Books → Type 0
-    ReadsAt key None after old new = (after ≡ None) × (new ≡ old)
-    ReadsAt key (Some p) None old new = ⊥
-    ReadsAt key (Some p) (Some q) old new = HearsAlone key p q old new
+    abbrev pub ReadsAt : ℕ → Option (Peer S) → Option (Peer S) → Growth → Type 0
+    ReadsAt key None after books = (after ≡ None) × (books.after ≡ books.before)
+    ReadsAt key (Some p) None books = ⊥
+    ReadsAt key (Some p) (Some q) books = HearsAlone key p q books
 
     -- what a turn hears of the peer under a key; no frame comes of a key without a peer
-    abbrev pub HearsAt : ℕ → Option (Peer S) → Option (Peer S) → Books → List Arrival → Type 0
-    HearsAt key None after before arrivals = (after ≡ None) × (bodies_of key arrivals ≡ [])
-    HearsAt key (Some p) None before arrivals = ⊥
-    HearsAt key (Some p) (Some q) before arrivals = HearsOwn key p q before arrivals
+    abbrev pub HearsAt : ℕ → Option (Peer S) → Option (Peer S) → Coming → Type 0
+    HearsAt key None after came = (after ≡ None) × (bodies_of key came.arrivals ≡ [])
+    HearsAt key (Some p) None came = ⊥
+    HearsAt key (Some p) (Some q) came = HearsOwn key p q came
 
     -- a turn: the frames of so many of the peers that it looks at, the first ones, one peer after the other, enter the books in this order;
     -- each peer's are those at the front of the bytes that its stream gave, behind those that it held; and its answers wait
@@ -185,12 +226,14 @@ module _ {S : Type 0} where
     -- Peers 4 and 7 are looked at. 4 held half a frame and gives its other half, and one more: its two frames enter, then the
     -- one that 7 gave. For 4 wait the answers to its two, at the books before the turn and at those after its first. For 7
     -- waits one answer, at the books after both of 4's.
-    pub record HearsFirst (count : ℕ) (old new : Peers S) (before after : Books) : Type 0 where
+    pub record HearsFirst (count : ℕ) (old new : Peers S) (books : Growth) : Type 0 where
       pub arrivals : List Arrival
-      pub entered : after ≡ books_after_arrivals before arrivals
+      pub entered : books.after ≡ books_after_arrivals books.before arrivals
       pub order : InTurn (take count (looked_at old)) arrivals
-      pub peers : (key : ℕ) → HearsAt key (peer_at old key) (peer_at new key) before arrivals
+      pub peers : (key : ℕ)
+          → HearsAt key (peer_at old key) (peer_at new key) (coming books.before arrivals)
 
     -- a turn, which hears any number of the peers that it looks at, the first ones
     abbrev pub HearsTurn : Peers S → Peers S → Books → Books → Type 0
-    HearsTurn old new before after = (count : ℕ) × HearsFirst count old new before after
+    HearsTurn old new before after =
+        (count : ℕ) × HearsFirst count old new (growth before after)

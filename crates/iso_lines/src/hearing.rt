@@ -2,7 +2,7 @@
 ghost use Rattle.std.specs.Prelude.{◌≡◌, ℕ, true, false, None, IsSome};
 ghost use Rattle.iso_peers.specs.Host.{IsInStep};
 ghost use Rattle.iso_lines.specs.Guarded.{is_guarded};
-ghost use Rattle.iso_lines.specs.Hearing.{ReadsPiece, dealing_of, KeepsBytes, HearsBytes, HearsAlone, ended_after};
+ghost use Rattle.iso_lines.specs.Hearing.{ReadsPiece, dealing_of, KeepsBytes, HearsBytes, HearsAlone, growth, ended_after};
 ghost use Rattle.iso_lines.specs.Turn.{EntersHeard};
 
 use crate::notes::{Noted, Told};
@@ -49,14 +49,15 @@ fn read_piece<S: Read>(stream: &mut S, block: &mut [u8]) -> Piece
 
 impl<S: Read + Write + Drop> Peer<'_, S> {
     /// Takes bytes of a line without a guard.
-    #[tactic(auto, using(crate::proofs::Bodies::direct_heard))]
+    #[tactic(auto, using(crate::proofs::PlainLines::direct_heard))]
     fn hear_direct<L: Log>(&mut self, host: &mut DurableHost<L>, bytes: &[u8], told: &mut Vec<Told>)
         ensures stream { self.new.stream ≡ self.old.stream }
         // Its frames are those at the front of the bytes, and their answers wait.
         ensures came { host.old.has_failed ≡ false → is_guarded self.old.line.terms.now ≡ false
             → self.old.standing.ended ≡ None
             → (key : ℕ) → HearsBytes key
-            (dealing_of self.old) (dealing_of self.new) host.old.host host.new.host bytes.now }
+            (dealing_of self.old) (dealing_of self.new)
+            (growth host.old.host host.new.host) bytes.now }
         ensures heard { EntersHeard host.old.host host.new.host }
         ensures log { host.new.log ≡ host.old.log }
         ensures step { IsInStep L.is_ready L.synced L.pending host.old
@@ -76,7 +77,7 @@ impl<S: Read + Write + Drop> Peer<'_, S> {
     }
 
     /// Takes bytes of a guarded line.
-    #[tactic(auto, using(crate::proofs::Bodies::guarded_heard))]
+    #[tactic(auto, using(crate::proofs::GuardedLines::guarded_heard))]
     fn hear_guarded<L: Log>(
         &mut self,
         host: &mut DurableHost<L>,
@@ -89,7 +90,8 @@ impl<S: Read + Write + Drop> Peer<'_, S> {
         ensures came { host.old.has_failed ≡ false → is_guarded self.old.line.terms.now ≡ true
             → self.old.standing.ended ≡ None
             → (key : ℕ) → HearsBytes key
-            (dealing_of self.old) (dealing_of self.new) host.old.host host.new.host bytes.now }
+            (dealing_of self.old) (dealing_of self.new)
+            (growth host.old.host host.new.host) bytes.now }
         ensures heard { EntersHeard host.old.host host.new.host }
         ensures log { host.new.log ≡ host.old.log }
         ensures step { IsInStep L.is_ready L.synced L.pending host.old
@@ -124,7 +126,7 @@ impl<S: Read + Write + Drop> Peer<'_, S> {
     }
 
     /// Takes bytes as its line says. Where the log had failed, nothing is taken.
-    #[tactic(auto, using(crate::proofs::Heard::none_heard, crate::proofs::Bodies::ended_heard))]
+    #[tactic(auto, using(crate::proofs::Heard::none_heard, crate::proofs::Reading::ended_heard))]
     fn take<L: Log>(
         &mut self,
         host: &mut DurableHost<L>,
@@ -136,7 +138,8 @@ impl<S: Read + Write + Drop> Peer<'_, S> {
         // Its frames are those at the front of the bytes, and their answers wait.
         ensures came { self.old.standing.ended ≡ None
             → (key : ℕ) → HearsBytes key
-            (dealing_of self.old) (dealing_of self.new) host.old.host host.new.host bytes.now }
+            (dealing_of self.old) (dealing_of self.new)
+            (growth host.old.host host.new.host) bytes.now }
         ensures heard { EntersHeard host.old.host host.new.host }
         ensures log { host.new.log ≡ host.old.log }
         ensures step { IsInStep L.is_ready L.synced L.pending host.old
@@ -154,7 +157,7 @@ impl<S: Read + Write + Drop> Peer<'_, S> {
     }
 
     /// Decides bytes that came.
-    #[tactic(auto, using(crate::proofs::Bodies::heard_then))]
+    #[tactic(auto, using(crate::proofs::Reading::heard_then))]
     fn hear<L: Log>(
         &mut self,
         host: &mut DurableHost<L>,
@@ -167,7 +170,8 @@ impl<S: Read + Write + Drop> Peer<'_, S> {
         // Its frames are those at the front of the bytes, and their answers wait.
         ensures came { self.old.standing.ended ≡ None
             → (key : ℕ) → HearsBytes key
-            (dealing_of self.old) (dealing_of self.new) host.old.host host.new.host bytes.now }
+            (dealing_of self.old) (dealing_of self.new)
+            (growth host.old.host host.new.host) bytes.now }
         ensures heard { EntersHeard host.old.host host.new.host }
         ensures log { host.new.log ≡ host.old.log }
         ensures step { IsInStep L.is_ready L.synced L.pending host.old
@@ -203,7 +207,7 @@ impl<S: Read + Write + Drop> Peer<'_, S> {
     }
 
     /// Reads and decides one piece of so many bytes at most, and tells how many it had.
-    #[tactic(auto, using(crate::proofs::Heard::none_heard, crate::proofs::Bodies::read_heard, crate::proofs::Bodies::read_none, crate::proofs::Bodies::read_over))]
+    #[tactic(auto, using(crate::proofs::Heard::none_heard, crate::proofs::Reading::read_heard, crate::proofs::Reading::read_none, crate::proofs::Reading::read_over))]
     pub fn read<L: Log>(
         &mut self,
         host: &mut DurableHost<L>,
@@ -215,7 +219,8 @@ impl<S: Read + Write + Drop> Peer<'_, S> {
     ) -> usize
         // Its frames are those at the front of the bytes that its stream gave, and their answers wait.
         ensures came { self.old.standing.ended ≡ None
-            → (key : ℕ) → HearsAlone S.remaining key self.old self.new host.old.host host.new.host }
+            → (key : ℕ)
+            → HearsAlone S.remaining key self.old self.new (growth host.old.host host.new.host) }
         // The books grow by bodies, one after the other, and by nothing else.
         ensures heard { EntersHeard host.old.host host.new.host }
         // The log isn't called: what a crash leaves stays the same.

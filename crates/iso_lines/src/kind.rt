@@ -1,7 +1,7 @@
 //! The message type of a frame, seen in its first bytes.
 
 use iso_host::Link;
-use iso_parts::four_digits_in;
+use iso_parts::raw::four_digits_in;
 
 /// The longest header, with the longest message type behind it.
 const MOST: usize = 8;

@@ -23,6 +23,7 @@ mod notes;
 mod pages;
 mod peer;
 mod peers;
+mod settling;
 mod share;
 mod standing;
 mod taking;

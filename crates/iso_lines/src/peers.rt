@@ -1,11 +1,10 @@
 //! All peers of a host, and what a turn does with them.
 ghost use Rattle.std.specs.Prelude.{◌≡◌, ℕ, None, IfSome, IfNone};
 ghost use Rattle.iso_peers.specs.Host.{IsInStep};
-ghost use Rattle.iso_lines.specs.Hearing.{ReadsAt, HearsTurn};
+ghost use Rattle.iso_lines.specs.Hearing.{ReadsAt, HearsTurn, growth};
 ghost use Rattle.iso_lines.specs.Turn.{EntersHeard};
 ghost use Rattle.iso_lines.specs.Keys.{peer_at, looked_at, OthersStay, AllOthersStay, AllStay};
-ghost use Rattle.iso_lines.specs.Keys.{IsLetIn, SameAt, StaysOrGoes, EachStaysOrGoes};
-ghost use Rattle.iso_lines.specs.Moment.{millis_of};
+ghost use Rattle.iso_lines.specs.Keys.{IsLetIn, SameAt};
 
 use crate::event::{Event, Lines, Refusal};
 use crate::letting::refusal_of;
@@ -14,7 +13,6 @@ use crate::moment::Moment;
 use crate::notes::Told;
 use crate::peer::Peer;
 use crate::share::{BLOCK, is_full, read_share};
-use crate::standing::Closing;
 use crate::tally::{NO_PEERS, Tally};
 use iso_durable::Log;
 use iso_guard::Rooms;
@@ -32,22 +30,22 @@ pub const PAUSE: u64 = 200;
 pub struct Peers<'l, S> {
     alloc: Global,
     lines: &'l [Line<'l>],
-    all: Slab<Peer<'l, S>>,
+    pub(crate) all: Slab<Peer<'l, S>>,
     /// Of each line.
-    tallies: Vec<Tally>,
+    pub(crate) tallies: Vec<Tally>,
     /// The keys of those that this turn looks at.
-    listed: Vec<usize>,
+    pub(crate) listed: Vec<usize>,
     /// The keys of those that the next turn looks at.
-    next: Vec<usize>,
+    pub(crate) next: Vec<usize>,
     /// The place in the list of the first that wasn't read in this turn.
-    left_out: usize,
+    pub(crate) left_out: usize,
     block: Vec<u8>,
     rooms: Rooms,
     told: Vec<Told>,
     /// How many peers were let in.
     count: u64,
     /// When all peers were looked at, in milliseconds.
-    looked: u64,
+    pub(crate) looked: u64,
 }
 
 impl<'l, S: Read + Write + Drop> Peers<'l, S> {
@@ -200,7 +198,7 @@ impl<'l, S: Read + Write + Drop> Peers<'l, S> {
     #[tactic(auto, using(crate::proofs::Heard::none_heard))]
     fn read_one<L: Log>(&mut self, host: &mut DurableHost<L>, key: usize, now: u64)
         ensures came { ReadsAt S.remaining key
-            (peer_at self.old key) (peer_at self.new key) host.old.host host.new.host }
+            (peer_at self.old key) (peer_at self.new key) (growth host.old.host host.new.host) }
         // The books grow by bodies, one after the other, and by nothing else.
         ensures heard { EntersHeard host.old.host host.new.host }
         // The log isn't called, and stays in step with the journal.
@@ -306,116 +304,6 @@ impl<'l, S: Read + Write + Drop> Peers<'l, S> {
                 tally.came = 0;
                 tally.went = 0;
             }
-        }
-    }
-
-    /// Closes a peer, and tells why.
-    pub fn close<N: Lines>(&mut self, key: usize, why: Closing, now: Moment, log: &mut N)
-        // No peer is under the key any more.
-        ensures gone { peer_at self.new key ≡ None }
-        // Every other peer is as it was.
-        ensures others { OthersStay key self.old self.new }
-    {
-        if let Some(peer) = self.all.try_remove(key) {
-            if let Some(tally) = self.tallies.get_mut(peer.notes.link) {
-                tally.peers = tally.peers.saturating_sub(1);
-            }
-            log.tell(
-                now.since_1970,
-                &Event::Closed {
-                    link: peer.notes.link,
-                    peer: peer.notes.peer,
-                    why,
-                    counts: peer.notes.counts,
-                },
-            );
-        }
-    }
-
-    /// Closes a peer, if it is to be closed.
-    #[tactic(auto, using(crate::proofs::Keys::stays))]
-    fn close_one<N: Lines>(&mut self, key: usize, now: Moment, log: &mut N)
-        ensures settled { StaysOrGoes (millis_of now)
-            (peer_at self.old key) (peer_at self.new key) }
-        // Every other peer is as it was.
-        ensures others { OthersStay key self.old self.new }
-    {
-        let closing = match self.all.get(key) {
-            Some(peer) => peer.closing(now.millis()),
-            None => None,
-        };
-        if let Some(why) = closing {
-            self.close(key, why, now, log);
-        }
-    }
-
-    /// Lists a peer for the next turn, where that turn reads it or writes to it without a further event.
-    fn list_again(&mut self, key: usize, now: u64, is_left_out: bool)
-        ensures same { SameAt (peer_at self.old key) (peer_at self.new key) }
-        // Every other peer is as it was.
-        ensures others { OthersStay key self.old self.new }
-    {
-        if let Some(peer) = self.all.get_mut(key) {
-            peer.is_listed = is_left_out || peer.goes_on(now);
-            if peer.is_listed {
-                let _ = self.next.push(key);
-            } else {
-                peer.rest();
-            }
-        }
-    }
-
-    /// Looks at one of the list: it is closed, listed again, or left until something comes.
-    #[tactic(auto, using(crate::proofs::Keys::same_stays, crate::proofs::Keys::stays_twice, crate::proofs::Keys::each_stays, crate::proofs::Keys::one_of_all))]
-    fn settle_one<N: Lines>(&mut self, place: usize, now: Moment, log: &mut N)
-        ensures settled { EachStaysOrGoes (millis_of now) self.old self.new }
-    {
-        if let Some(key) = self.listed.get(place).copied() {
-            self.close_one(key, now, log);
-            self.list_again(key, now.millis(), place >= self.left_out);
-        }
-    }
-
-    /// Ends a turn: closes the peers that are to be closed, and lists those that the next turn looks at, first of all those
-    /// that were left out. Tells whether there are any.
-    #[tactic(auto, using(crate::proofs::Keys::each_twice))]
-    pub fn settle<N: Lines>(&mut self, now: Moment, log: &mut N) -> bool
-        // Each peer stays as it is, but for when it is looked at, or it was to be closed at this moment, and is gone.
-        ensures settled { EachStaysOrGoes (millis_of now) self.old self.new }
-    {
-        self.close_late(now, log);
-        let count = self.listed.len();
-        for place in self.left_out..count {
-            self.settle_one(place, now, log);
-        }
-        for place in 0..self.left_out.min(count) {
-            self.settle_one(place, now, log);
-        }
-        self.listed.clear();
-        std::mem::swap(&mut self.listed, &mut self.next);
-        !self.listed.is_empty()
-    }
-
-    /// Closes all peers that are late, a few times a second.
-    #[tactic(auto, using(crate::proofs::Keys::each_stays, crate::proofs::Keys::each_twice, crate::proofs::Keys::one_of_all))]
-    fn close_late<N: Lines>(&mut self, now: Moment, log: &mut N)
-        ensures settled { EachStaysOrGoes (millis_of now) self.old self.new }
-    {
-        if now.millis().saturating_sub(self.looked) < PAUSE {
-            return;
-        }
-        self.looked = now.millis();
-        for key in 0..self.all.capacity() {
-            self.close_one(key, now, log);
-        }
-    }
-
-    /// Closes all peers: the host stops.
-    pub fn close_all<N: Lines>(&mut self, now: Moment, log: &mut N)
-        ensures gone { (k : ℕ) → peer_at self.new k ≡ None }
-    {
-        for key in 0..self.all.capacity() {
-            self.close(key, Closing::Stopped, now, log);
         }
     }
 }

@@ -1,7 +1,7 @@
 //! What is read of one peer in a turn.
 ghost use Rattle.std.specs.Prelude.{◌≡◌, ℕ};
 ghost use Rattle.iso_peers.specs.Host.{IsInStep};
-ghost use Rattle.iso_lines.specs.Hearing.{HearsAlone};
+ghost use Rattle.iso_lines.specs.Hearing.{HearsAlone, growth};
 ghost use Rattle.iso_lines.specs.Turn.{EntersHeard};
 
 use crate::notes::Told;
@@ -38,7 +38,7 @@ pub(crate) fn read_share<L: Log, S: Read + Write + Drop>(
 )
     // Its frames are those at the front of the bytes that its stream gave, and their answers wait.
     ensures came { (key : ℕ)
-        → HearsAlone S.remaining key peer.old peer.new host.old.host host.new.host }
+        → HearsAlone S.remaining key peer.old peer.new (growth host.old.host host.new.host) }
     // The books grow by bodies, one after the other, and by nothing else.
     ensures heard { EntersHeard host.old.host host.new.host }
     // The log isn't called, and stays in step with the journal.

@@ -147,7 +147,7 @@ impl Standing {
     }
 
     /// It was written to: how many bytes wait still, and whether it took some.
-    pub fn takes(&mut self, limits: &Limits, now: u64, waiting: usize, some: bool)
+    pub fn sends(&mut self, limits: &Limits, now: u64, waiting: usize, some: bool)
         // Bytes wait unread since some were last taken, or since they began to wait. Where too many
         // waited for it to be read from, its other times begin anew.
         ensures { self.new ≡ writing_of limits.now self.old now waiting some }

@@ -1,7 +1,7 @@
 //! What a peer of a line without a guard sends, frame after frame.
 ghost use Rattle.std.specs.Prelude.{◌≡◌, true, IfOk, OnErr};
 ghost use Rattle.iso_peers.specs.Host.{IsInStep};
-ghost use Rattle.iso_peers.specs.Turn.{TakesAll};
+ghost use Rattle.iso_peers.specs.Turn.{TakesAll, at_books};
 ghost use Rattle.iso_lines.specs.Turn.{EntersHeard};
 
 use crate::notes::{Notes, Told};
@@ -21,8 +21,8 @@ pub(crate) fn take_noted<L: Log>(
     told: &mut Vec<Told>,
 ) -> Result<Turned, LogFailed>
     // The bodies of all whole frames are entered, one after the other, and their answers wait behind the others.
-    ensures took { IfOk result
-        (TakesAll connection.old connection.new host.old.host host.new.host bytes.now) }
+    ensures took { IfOk result (TakesAll (at_books connection.old host.old.host)
+        (at_books connection.new host.new.host) bytes.now) }
     ensures refused { OnErr result (host.old.has_failed ≡ true) }
     ensures table { connection.new.peer.table ≡ connection.old.peer.table }
     ensures header { connection.new.peer.header ≡ connection.old.peer.header }
@@ -43,25 +43,19 @@ pub(crate) fn take_noted<L: Log>(
         match host.take(connection, &bytes[used..]) {
             Err(TurnFault::Log) => return Err(LogFailed),
             Err(TurnFault::BadHeader) => {
-                return Ok(Turned {
-                    used,
-                    stopped: Some(PeerFault::BadHeader),
-                });
+                let stopped = Some(PeerFault::BadHeader);
+                return Ok(Turned { used, stopped });
             }
             Err(TurnFault::Memory) => {
-                return Ok(Turned {
-                    used,
-                    stopped: Some(PeerFault::Memory),
-                });
+                let stopped = Some(PeerFault::Memory);
+                return Ok(Turned { used, stopped });
             }
             Ok(taken) => {
                 notes.note_taken(agreed, &bytes[used..], &taken, told);
                 used += taken.used;
                 if used == bytes.len() {
-                    return Ok(Turned {
-                        used,
-                        stopped: None,
-                    });
+                    let stopped = None;
+                    return Ok(Turned { used, stopped });
                 }
             }
         }

@@ -126,7 +126,7 @@ impl<S: Read + Write + Drop> Peer<'_, S> {
         if self.standing.ended != Some(Closing::Failed) {
             let waiting = self.waiting();
             self.standing
-                .takes(&self.line.terms.limits, now, waiting, went > 0);
+                .sends(&self.line.terms.limits, now, waiting, went > 0);
         }
     }
 }

@@ -110,8 +110,8 @@ fn add_closing(line: &mut String, why: Closing, counts: &Counts) -> Result<(), A
     )
 }
 
-/// Adds what came of a frame.
-fn add_frame(line: &mut String, lines: &[Line<'_>], event: &Event) -> Result<(), AllocError> {
+/// Adds the answer that an entry gave to a frame.
+fn add_answered(line: &mut String, lines: &[Line<'_>], event: &Event) -> Result<(), AllocError> {
     match *event {
         Event::Answered {
             link,
@@ -130,6 +130,13 @@ fn add_frame(line: &mut String, lines: &[Line<'_>], event: &Event) -> Result<(),
                 "\"code\":\"{code:02}\",\"entry\":{entry},\"micros\":{micros}}}\n"
             )
         }
+        _ => Ok(()),
+    }
+}
+
+/// Adds what came of a frame that is answered without an entry.
+fn add_reply(line: &mut String, lines: &[Line<'_>], event: &Event) -> Result<(), AllocError> {
+    match *event {
         Event::Replied {
             link,
             peer,
@@ -274,9 +281,8 @@ pub fn add_line(
 ) -> Result<(), AllocError> {
     add_time(line, at)?;
     match event {
-        Event::Answered { .. } | Event::Replied { .. } | Event::Foreign { .. } => {
-            add_frame(line, lines, event)
-        }
+        Event::Answered { .. } => add_answered(line, lines, event),
+        Event::Replied { .. } | Event::Foreign { .. } => add_reply(line, lines, event),
         Event::Silent { .. } | Event::Unreadable { .. } => add_unanswered(line, lines, event),
         Event::Kept { .. }
         | Event::Journal { .. }

@@ -6,7 +6,7 @@ use std::alloc::Global;
 use std::io::{ErrorKind, Read, Write};
 
 /// How many bytes of a visitor are read at once.
-const PIECE: usize = 1_024;
+const REQUEST_PIECE: usize = 1_024;
 
 /// How many reads and writes a visitor has in one turn.
 const STEPS: usize = 64;
@@ -55,8 +55,10 @@ impl<S: Read + Write + Drop> Visitor<S> {
 
     /// Reads a piece of the request.
     fn read<P: Pages>(&mut self, pages: &mut P) {
-        let mut piece = [0u8; PIECE];
-        let most = MOST_REQUEST.saturating_sub(self.standing.held).min(PIECE);
+        let mut piece = [0u8; REQUEST_PIECE];
+        let most = MOST_REQUEST
+            .saturating_sub(self.standing.held)
+            .min(REQUEST_PIECE);
         let Some(room) = piece.get_mut(..most) else {
             return;
         };

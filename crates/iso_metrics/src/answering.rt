@@ -73,18 +73,18 @@ fn reason(status: u16) -> &'static str {
     }
 }
 
-/// Adds an answer: its head, and what it tells unless only the head is wanted.
-fn write_answer(
+/// Adds the head of an answer that tells so many bytes.
+fn write_head(
     server: &mut Server,
-    request: &Request,
+    asked: &Asked,
     status: u16,
-    body: &[u8],
+    size: u64,
     out: &mut Vec<u8>,
 ) -> Result<(), WriteError> {
     let fields = [
         Header {
             name: b"content-type",
-            value: content_type(&request.asked),
+            value: content_type(asked),
         },
         Header {
             name: b"cache-control",
@@ -100,18 +100,28 @@ fn write_answer(
         },
     ];
     // only who asks for something that isn't done is told what is
-    let count = match request.asked {
+    let count = match asked {
         Asked::NotAllowed => 4,
         _ => 3,
     };
-    let size = BodySize::Known(body.len() as u64);
     server.write_response(
         out,
         status,
         reason(status).as_bytes(),
         fields.get(..count).unwrap_or(&[]),
-        size,
-    )?;
+        BodySize::Known(size),
+    )
+}
+
+/// Adds an answer: its head, and what it tells unless only the head is wanted.
+fn write_answer(
+    server: &mut Server,
+    request: &Request,
+    status: u16,
+    body: &[u8],
+    out: &mut Vec<u8>,
+) -> Result<(), WriteError> {
+    write_head(server, &request.asked, status, body.len() as u64, out)?;
     if !request.wants_head {
         server.write_data(out, body)?;
     }

@@ -222,8 +222,8 @@ impl Metrics {
         Ok(())
     }
 
-    /// Adds what is told of the links.
-    fn add_links(&self, text: &mut String) -> Result<(), AllocError> {
+    /// Adds the metrics that have several numbers a link.
+    fn add_groups(&self, text: &mut String) -> Result<(), AllocError> {
         for group in [
             Group::Frames,
             Group::Answers,
@@ -232,9 +232,21 @@ impl Metrics {
         ] {
             self.add_group(text, group)?;
         }
+        Ok(())
+    }
+
+    /// Adds the metrics that have one number a link.
+    fn add_families(&self, text: &mut String) -> Result<(), AllocError> {
         for family in FAMILIES {
             self.add_family(text, family)?;
         }
+        Ok(())
+    }
+
+    /// Adds what is told of the links.
+    fn add_links(&self, text: &mut String) -> Result<(), AllocError> {
+        self.add_groups(text)?;
+        self.add_families(text)?;
         self.add_answer_times(text)
     }
 

@@ -3,6 +3,6 @@ use Rattle.std.specs.Prelude.{ℕ, List}
 use Rattle.iso_host.specs.Peers.{Unfinished}
 
 -- its link with the bytes of the frame that isn't whole, and the bytes of its answers that aren't written yet
-pub record Connected : Type 0 where
+pub record ConnectionState : Type 0 where
   pub peer : Unfinished
   pub waiting : List ℕ

@@ -14,9 +14,9 @@ pub struct Connection<'l> {
 }
 
 impl<'l> Model for Connection<'l> {
-    ghost use Rattle.iso_peers.specs.Connection.{Connected};
+    ghost use Rattle.iso_peers.specs.Connection.{ConnectionState};
 
-    ghost Value = { Connected };
+    ghost Value = { ConnectionState };
 
     ghost view = { λ c. record { peer = c.peer; waiting = c.waiting.items } };
 }

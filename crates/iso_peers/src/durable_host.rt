@@ -5,7 +5,7 @@ ghost use Rattle.iso_issuer.specs.Laws.{books_after};
 ghost use Rattle.iso_durable.specs.Durable.{MayLeave, come_all, syncs};
 ghost use Rattle.iso_durable.specs.Host.{IsConsistent, Stops, state_of};
 ghost use Rattle.iso_peers.specs.Host.{durable_of, IsInStep, IsKept};
-ghost use Rattle.iso_peers.specs.Turn.{TakesOf, RefusesTurn, TakesAll};
+ghost use Rattle.iso_peers.specs.Turn.{TakesOf, RefusesTurn, TakesAll, at_books, books_change};
 
 use crate::connection::Connection;
 use crate::fault::TurnFault;
@@ -82,14 +82,14 @@ impl<L: Log> DurableHost<L> {
     ) -> Result<Taken, TurnFault>
         // At `Ok` the bytes stay behind those that were held, or they end a frame, whose body is
         // entered, and whose answer waits behind the others.
-        ensures took { IfOk result
-            (TakesOf connection.old connection.new self.old.host self.new.host bytes.now) }
+        ensures took { IfOk result (TakesOf (at_books connection.old self.old.host)
+            (at_books connection.new self.new.host) bytes.now) }
         // It succeeds only where the log didn't fail before.
         ensures sound { OnOk result (self.old.has_failed ≡ false) }
         // A refusal is a log that failed before, a header that isn't of digits, or want of memory,
         // where the order of a frame's body may be entered.
         ensures refused { IfErr result (RefusesTurn self.old.has_failed connection.old.peer
-            self.old.host self.new.host bytes.now) }
+            (books_change self.old.host self.new.host) bytes.now) }
         // A refusal leaves what the connection holds, and what waits for it.
         ensures unchanged { OnErr result (connection.new ≡ connection.old) }
         // The connection's table stays the same.
@@ -133,8 +133,8 @@ impl<L: Log> DurableHost<L> {
     ) -> Result<Turned, LogFailed>
         // At `Ok` the bodies of all whole frames are entered, one after the other, and their
         // answers wait in this order, also where a later frame is refused.
-        ensures took { IfOk result
-            (TakesAll connection.old connection.new self.old.host self.new.host bytes.now) }
+        ensures took { IfOk result (TakesAll (at_books connection.old self.old.host)
+            (at_books connection.new self.new.host) bytes.now) }
         // It succeeds only where the log didn't fail before.
         ensures sound { OnOk result (self.old.has_failed ≡ false) }
         // It fails only where the log failed before.

@@ -2,7 +2,8 @@
 ghost use Rattle.std.specs.Prelude.{◌≡◌, List, IfOk, IfErr, OnErr};
 ghost use Rattle.iso_order.specs.Order.{Instruction};
 ghost use Rattle.iso_issuer.specs.Laws.{books_after};
-ghost use Rattle.iso_peers.specs.Turn.{TakesOf, RefusesOf, TakesAll};
+ghost use Rattle.iso_host.specs.Peers.{Refuses};
+ghost use Rattle.iso_peers.specs.Turn.{TakesOf, TakesAll, at_books};
 
 use crate::connection::Connection;
 use crate::turn::Turned;
@@ -17,8 +18,9 @@ pub(crate) fn take_piece(
     connection: &mut Connection<'_>,
     bytes: &[u8],
 ) -> Result<Taken, PeerFault>
-    ensures took { IfOk result (TakesOf connection.old connection.new host.old host.new bytes.now) }
-    ensures refused { IfErr result (RefusesOf connection.old.peer host.old host.new bytes.now) }
+    ensures took { IfOk result (TakesOf (at_books connection.old host.old)
+        (at_books connection.new host.new) bytes.now) }
+    ensures refused { IfErr result (Refuses connection.old.peer host.old host.new bytes.now) }
     ensures unchanged { OnErr result (connection.new ≡ connection.old) }
     ensures table { connection.new.peer.table ≡ connection.old.peer.table }
     ensures header { connection.new.peer.header ≡ connection.old.peer.header }
@@ -33,7 +35,8 @@ pub(crate) fn take_piece(
 
 /// Takes all bytes of a peer, frame after frame; the answers wait.
 pub(crate) fn take_pieces(host: &mut Host, connection: &mut Connection<'_>, bytes: &[u8]) -> Turned
-    ensures took { TakesAll connection.old connection.new host.old host.new bytes.now result }
+    ensures took { TakesAll (at_books connection.old host.old)
+        (at_books connection.new host.new) bytes.now result }
     ensures table { connection.new.peer.table ≡ connection.old.peer.table }
     ensures header { connection.new.peer.header ≡ connection.old.peer.header }
     ensures enters { (orders : List Instruction) × (host.new ≡ books_after host.old orders) }

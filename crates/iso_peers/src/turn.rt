@@ -5,7 +5,7 @@ ghost use Rattle.iso_issuer.specs.Laws.{books_after};
 ghost use Rattle.iso_durable.specs.Durable.{MayLeave, come_all, syncs};
 ghost use Rattle.iso_durable.specs.Host.{Stops};
 ghost use Rattle.iso_peers.specs.Host.{durable_of, IsInStep, IsKept};
-ghost use Rattle.iso_peers.specs.Turn.{TakesAll};
+ghost use Rattle.iso_peers.specs.Turn.{TakesAll, at_books};
 
 use crate::connection::Connection;
 use crate::durable_host::DurableHost;
@@ -32,8 +32,8 @@ impl<L: Log> DurableHost<L> {
     ) -> Result<Turned, LogFailed>
         // At `Ok` the bodies of all whole frames are entered, one after the other, and their
         // answers wait in this order, also where a later frame is refused.
-        ensures took { IfOk result
-            (TakesAll connection.old connection.new self.old.host self.new.host bytes.now) }
+        ensures took { IfOk result (TakesAll (at_books connection.old self.old.host)
+            (at_books connection.new self.new.host) bytes.now) }
         // At `Ok` the log never failed, and every order of the journal is kept.
         ensures kept { OnOk result (IsKept self.new) }
         // The connection's table stays the same.

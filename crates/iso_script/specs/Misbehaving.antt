@@ -12,7 +12,8 @@ use Rattle.iso_order.specs.Verdict.{verdict}
 use Rattle.iso_issuer.specs.Books.{Books}
 use Rattle.iso_host.specs.Asking.{message_in}
 use Rattle.iso_host.specs.Handling.{entered_by}
-use Rattle.iso_host.specs.Hosting.{GrowsBy}
+use Rattle.iso_host.specs.Hosting.{GrowsBy, Replying, replying}
+use Rattle.iso_host.specs.Links.{Agreed}
 use Rattle.iso_host.specs.Output.{IsAnswerTo, IsFramed, response_with}
 use Rattle.iso_script.specs.Behaving.{IsBehaviourTo, counted_by}
 use Rattle.iso_script.specs.declared.behaviour.Behaviour.{Behaviour}
@@ -25,6 +26,15 @@ use Rattle.iso_script.specs.declared.counted.Counted.{Counted}
 pub record Acting : Type 0 where
   pub books : Books
   pub rules : List Counted
+
+-- a host with rules that replies into a buffer
+pub record Serving : Type 0 where
+  pub host : Acting
+  pub out : List ℕ
+
+-- this host and these bytes
+abbrev pub serving : Acting → List ℕ → Serving
+serving host out = record { host = host; out = out }
 
 -- whole bytes are this message, or they are none
 abbrev pub IsReadWhole : Layout → List ℕ → Contents → Bool → Type 0
@@ -69,37 +79,38 @@ garbage_for h [] = []
 garbage_for h (b ∷ bs) = frame_of h garbage
 
 -- something in place of the host's answer
-abbrev pub InPlace : (List ℕ → List ℕ) → Layout → Header → Books → Option Contents → List ℕ → Type 0
-InPlace other t h books message bytes =
-    (honest : List ℕ) × IsAnswerTo t h books message honest × (bytes ≡ other honest)
+abbrev pub InPlace : (List ℕ → List ℕ) → Agreed → Books → Option Contents → List ℕ → Type 0
+InPlace other l books message bytes =
+    (honest : List ℕ) × IsAnswerTo l.table l.header books message honest × (bytes ≡ other honest)
 
 -- what is written to a message that this is done to
-abbrev pub IsWrittenBy : Deed → Layout → Header → Books → Option Contents → List ℕ → Type 0
-IsWrittenBy (Answer code) t h books message bytes = IsFramed t h (response_by code message) bytes
-IsWrittenBy (Delay time) t h books message bytes = IsAnswerTo t h books message bytes
-IsWrittenBy Silent t h books message bytes = InPlace (λ _. []) t h books message bytes
-IsWrittenBy Cut t h books message bytes = InPlace (λ _. []) t h books message bytes
-IsWrittenBy Garbage t h books message bytes = InPlace (garbage_for h) t h books message bytes
+abbrev pub IsWrittenBy : Deed → Agreed → Books → Option Contents → List ℕ → Type 0
+IsWrittenBy (Answer code) l books message bytes =
+    IsFramed l.table l.header (response_by code message) bytes
+IsWrittenBy (Delay time) l books message bytes = IsAnswerTo l.table l.header books message bytes
+IsWrittenBy Silent l books message bytes = InPlace (λ _. []) l books message bytes
+IsWrittenBy Cut l books message bytes = InPlace (λ _. []) l books message bytes
+IsWrittenBy Garbage l books message bytes = InPlace (garbage_for l.header) l books message bytes
 
 -- what is written to it
-abbrev pub IsWritten : Behaviour → Layout → Header → Books → Option Contents → List ℕ → Type 0
-IsWritten Honest t h books message bytes = IsAnswerTo t h books message bytes
-IsWritten (Ruled number deed) t h books message bytes = IsWrittenBy deed t h books message bytes
+abbrev pub IsWritten : Behaviour → Agreed → Books → Option Contents → List ℕ → Type 0
+IsWritten Honest l books message bytes = IsAnswerTo l.table l.header books message bytes
+IsWritten (Ruled number deed) l books message bytes = IsWrittenBy deed l books message bytes
 
 -- ---- both
 
--- a message, or none, was treated so: the books and the bytes of the answers
-abbrev pub Treats : Behaviour → Layout → Header → Books → Books → Option Contents → List ℕ → List ℕ
-    → Type 0
-Treats b t h old new message out grown = (new ≡ books_by b old message)
-    × GrowsBy (IsWritten b t h old message) out grown
+-- a message of a link, or none, was treated so: the books and the bytes of the answers
+abbrev pub Treats : Behaviour → Agreed → Replying → Replying → Option Contents → Type 0
+Treats b l before after message = (after.books ≡ books_by b before.books message)
+    × GrowsBy (IsWritten b l before.books message) before.out after.out
 
--- a body was treated as its rules say
-pub record Misbehaves (t : Layout) (h : Header) (old new : Acting) (body out grown : List ℕ)
+-- a body that came on a link was treated as its rules say
+pub record Misbehaves (l : Agreed) (before after : Serving) (body : List ℕ)
     (b : Behaviour) : Type 0 where
-  pub behaves : IsBehaviourTo old.rules (message_in t body) b
-  pub treats : Treats b t h old.books new.books (message_in t body) out grown
-  pub counts : new.rules ≡ counted_by old.rules (message_in t body)
+  pub behaves : IsBehaviourTo before.host.rules (message_in l.table body) b
+  pub treats : Treats b l (replying before.host.books before.out)
+      (replying after.host.books after.out) (message_in l.table body)
+  pub counts : after.host.rules ≡ counted_by before.host.rules (message_in l.table body)
 
 -- no table reads the bytes that stand for no message
 abbrev pub ReadByNone : Type 0

@@ -4,7 +4,7 @@ ghost use Rattle.std.specs.Prelude.{◌≡◌, ℕ, List, IfOk, OnOk, OnErr, IsT
 ghost use Rattle.iso_wire.specs.Spelling.{Spelling};
 ghost use Rattle.iso_host.specs.Asking.{message_in};
 ghost use Rattle.iso_host.specs.Handling.{EntersOrKeeps};
-ghost use Rattle.iso_script.specs.Misbehaving.{IsReadWhole, Misbehaves};
+ghost use Rattle.iso_script.specs.Misbehaving.{IsReadWhole, Misbehaves, serving};
 
 use crate::behaviour::Behaviour;
 use crate::script::Script;
@@ -69,10 +69,9 @@ fn answer_body(
     body: &[u8],
     out: &mut Vec<u8>,
 ) -> Result<Behaviour, NoMemory>
-    ensures misbehaves { IfOk result (Misbehaves link.now.table link.now.header
-        (record { books = host.old; rules = script.old })
-        (record { books = host.new; rules = script.new })
-        body.now out.old.items out.new.items) }
+    ensures misbehaves { IfOk result (Misbehaves link.now
+        (serving (record { books = host.old; rules = script.old }) out.old.items)
+        (serving (record { books = host.new; rules = script.new }) out.new.items) body.now) }
     ensures memory { OnErr result (EntersOrKeeps link.now.table link.now.header host.old host.new
         (message_in link.now.table body.now)) }
     ensures rules { OnErr result (script.new ≡ script.old) }
@@ -140,8 +139,8 @@ impl Scripted {
         // Memory aside, the first rule that decides at the message says what enters the books and
         // goes out, honestly without one; each rule counts the message.
         ensures misbehaves { IfOk result
-            (Misbehaves link.now.table link.now.header self.old self.new
-            body.now out.old.items out.new.items) }
+            (Misbehaves link.now (serving self.old out.old.items)
+            (serving self.new out.new.items) body.now) }
         // Without memory the books are as they were, or the order is entered, and has an answer.
         ensures memory { OnErr result
             (EntersOrKeeps link.now.table link.now.header self.old.books self.new.books

@@ -10,7 +10,7 @@ ghost use Rattle.iso_order.specs.Outcome.{code_alone};
 ghost use Rattle.iso_order.specs.Response.{response};
 ghost use Rattle.iso_host.specs.Asking.{message_in};
 ghost use Rattle.iso_host.specs.Handling.{entered_by, EntersOrKeeps};
-ghost use Rattle.iso_host.specs.Hosting.{Answers, GrowsBy};
+ghost use Rattle.iso_host.specs.Hosting.{Answers, GrowsBy, replying};
 ghost use Rattle.iso_host.specs.Output.{IsFramed};
 ghost use Rattle.iso_script.specs.Misbehaving.{garbage_for, response_by, InPlace};
 ghost use Rattle.iso_script.specs.Misbehaving.{IsWrittenBy, Treats, books_by_deed};
@@ -105,7 +105,7 @@ fn answer_unsent(
     ensures enters { OnOk result
         (host.new ≡ entered_by host.old (message_in link.now.table body.now)) }
     ensures written { OnOk result
-        (GrowsBy (InPlace (λ _. []) link.now.table link.now.header host.old
+        (GrowsBy (InPlace (λ _. []) link.now host.old
         (message_in link.now.table body.now)) out.old.items out.new.items) }
     ensures memory { OnErr result (EntersOrKeeps link.now.table link.now.header host.old host.new
         (message_in link.now.table body.now)) }
@@ -127,7 +127,7 @@ fn answer_garbage(
     ensures enters { OnOk result
         (host.new ≡ entered_by host.old (message_in link.now.table body.now)) }
     ensures written { OnOk result
-        (GrowsBy (InPlace (garbage_for link.now.header) link.now.table link.now.header host.old
+        (GrowsBy (InPlace (garbage_for link.now.header) link.now host.old
         (message_in link.now.table body.now)) out.old.items out.new.items) }
     ensures memory { OnErr result (EntersOrKeeps link.now.table link.now.header host.old host.new
         (message_in link.now.table body.now)) }
@@ -152,8 +152,8 @@ pub(crate) fn answer_honestly(
     body: &[u8],
     out: &mut Vec<u8>,
 ) -> Result<(), NoMemory>
-    ensures answered { OnOk result (Answers link.now.table link.now.header host.old host.new
-        body.now out.old.items out.new.items) }
+    ensures answered { OnOk result (Answers link.now (replying host.old out.old.items)
+        (replying host.new out.new.items) body.now) }
     ensures memory { OnErr result (EntersOrKeeps link.now.table link.now.header host.old host.new
         (message_in link.now.table body.now)) }
     ensures unchanged { OnErr result (out.new.items ≡ out.old.items) }
@@ -178,7 +178,7 @@ fn do_deed(
     ensures enters { OnOk result
         (host.new ≡ books_by_deed deed.now host.old (message_in link.now.table body.now)) }
     ensures written { OnOk result
-        (GrowsBy (IsWrittenBy deed.now link.now.table link.now.header host.old
+        (GrowsBy (IsWrittenBy deed.now link.now host.old
         (message_in link.now.table body.now)) out.old.items out.new.items) }
     ensures memory { OnErr result (EntersOrKeeps link.now.table link.now.header host.old host.new
         (message_in link.now.table body.now)) }
@@ -206,8 +206,8 @@ pub(crate) fn treat(
     requires read { message_in link.now.table body.now ≡ Some rooms.old.request }
     requires spelled { (bytes : List ℕ) × Spelling link.now.table rooms.old.request bytes }
     ensures treats { OnOk result
-        (Treats behaviour.now link.now.table link.now.header host.old host.new
-        (message_in link.now.table body.now) out.old.items out.new.items) }
+        (Treats behaviour.now link.now (replying host.old out.old.items)
+        (replying host.new out.new.items) (message_in link.now.table body.now)) }
     ensures memory { OnErr result (EntersOrKeeps link.now.table link.now.header host.old host.new
         (message_in link.now.table body.now)) }
     ensures unchanged { OnErr result (out.new.items ≡ out.old.items) }

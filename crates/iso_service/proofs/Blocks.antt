@@ -9,15 +9,16 @@ use Rattle.iso_wire.specs.declared.header.Header.TheVariants.{Binary2, Ascii4, B
 use Rattle.iso_wire.specs.Framing.{frame_of, frames_of, AllFit, NoFrame, BadIsNoFrame, is_bad_header, largest}
 use Rattle.iso_order.specs.Order.{Instruction}
 use Rattle.iso_issuer.specs.Books.{Books}
+use Rattle.iso_host.specs.Links.{agreed}
 use Rattle.iso_host.specs.Entering.{books_after_bodies, BodiesGoOn, StaysWithout}
 use Rattle.iso_host.specs.Output.{IsAnswer, IsOutputFrom, IsOutput}
-use Rattle.iso_host.specs.Peers.{Unfinished, Refuses}
-use Rattle.iso_host.specs.Serving.{Served, Whole, IsPrefix}
+use Rattle.iso_host.specs.Peers.{Unfinished, Refuses, unfinished}
+use Rattle.iso_host.specs.Serving.{IsPrefix, Serves, IsWhole, standing}
 use Rattle.iso_host.specs.Writing.{WritesSome}
 use Rattle.iso_host.specs.declared.peer.PeerFault.{PeerFault}
 use Rattle.iso_host.specs.declared.peer.PeerFault.TheVariants as peer
-use Rattle.iso_peers.specs.Connection.{Connected}
-use Rattle.iso_peers.specs.Turn.{TakesAll, StopsAt}
+use Rattle.iso_peers.specs.Connection.{ConnectionState}
+use Rattle.iso_peers.specs.Turn.{TakesAll, StopsAt, at_books}
 use Rattle.iso_peers.specs.declared.turn.Turned.{Turned}
 use Rattle.iso_host.specs.declared.fault.Report.{Report}
 use Rattle.iso_service.specs.Serving.{AreKept, EndsAt, Hands, Leaves, Stay, StayBehind, UnlessLog, WithoutMemory, stop_of}
@@ -60,25 +61,25 @@ fit_append h (x ∷ xs) ys first second = (first.0, fit_append h xs ys first.1 s
 
 -- output at the books after some bodies is output behind them
 output_behind : (t : Layout) (h : Header) (books : Books) (before earlier bodies : List (List ℕ)) (bytes : List ℕ) → BodiesGoOn
-    → IsOutputFrom t h (books_after_bodies t books before) earlier bodies bytes → IsOutputFrom t h books (before ++ earlier) bodies bytes
+    → IsOutputFrom (agreed t h) (books_after_bodies t books before) earlier bodies bytes → IsOutputFrom (agreed t h) books (before ++ earlier) bodies bytes
 output_behind t h books before earlier [] bytes law is = is
 output_behind t h books before earlier (x ∷ xs) bytes law is = (
   is.0,
   is.1,
   subst (λ (b : Books). IsAnswer t h b x is.0) (law t books before earlier) is.2,
-  subst (λ (l : List (List ℕ)). IsOutputFrom t h books l xs is.1) (sym (append_assoc before earlier (x ∷ []))) (output_behind t h books before (earlier ++ x ∷ []) xs is.1 law is.3),
+  subst (λ (l : List (List ℕ)). IsOutputFrom (agreed t h) books l xs is.1) (sym (append_assoc before earlier (x ∷ []))) (output_behind t h books before (earlier ++ x ∷ []) xs is.1 law is.3),
   is.4,
 )
 
 output_joined : (t : Layout) (h : Header) (books : Books) (earlier xs ys : List (List ℕ)) (a b : List ℕ)
-    → IsOutputFrom t h books earlier xs a → IsOutputFrom t h books (earlier ++ xs) ys b → IsOutputFrom t h books earlier (xs ++ ys) (a ++ b)
+    → IsOutputFrom (agreed t h) books earlier xs a → IsOutputFrom (agreed t h) books (earlier ++ xs) ys b → IsOutputFrom (agreed t h) books earlier (xs ++ ys) (a ++ b)
 output_joined t h books earlier [] ys a b first second =
-    subst (λ (l : List ℕ). IsOutputFrom t h books earlier ys (l ++ b)) (sym first) (subst (λ (l : List (List ℕ)). IsOutputFrom t h books l ys b) (append-nil earlier) second)
+    subst (λ (l : List ℕ). IsOutputFrom (agreed t h) books earlier ys (l ++ b)) (sym first) (subst (λ (l : List (List ℕ)). IsOutputFrom (agreed t h) books l ys b) (append-nil earlier) second)
 output_joined t h books earlier (x ∷ xs) ys a b first second = (
   first.0,
   first.1 ++ b,
   first.2,
-  output_joined t h books (earlier ++ x ∷ []) xs ys first.1 b first.3 (subst (λ (l : List (List ℕ)). IsOutputFrom t h books l ys b) (sym (append_assoc earlier (x ∷ []) xs)) second),
+  output_joined t h books (earlier ++ x ∷ []) xs ys first.1 b first.3 (subst (λ (l : List (List ℕ)). IsOutputFrom (agreed t h) books l ys b) (sym (append_assoc earlier (x ∷ []) xs)) second),
   ap (λ (l : List ℕ). l ++ b) first.4 ∙ append_assoc first.0 first.1 b,
 )
 
@@ -86,7 +87,7 @@ output_append : (t : Layout) (h : Header) (books : Books) (xs ys : List (List �
     → IsOutput t h books xs a → IsOutput t h (books_after_bodies t books xs) ys b → IsOutput t h books (xs ++ ys) (a ++ b)
 unfolding IsOutput
 output_append t h books xs ys a b law first second =
-    output_joined t h books [] xs ys a b first (subst (λ (l : List (List ℕ)). IsOutputFrom t h books l ys b) (append-nil xs) (output_behind t h books xs [] ys b law second))
+    output_joined t h books [] xs ys a b first (subst (λ (l : List (List ℕ)). IsOutputFrom (agreed t h) books l ys b) (append-nil xs) (output_behind t h books xs [] ys b law second))
 
 output_none : (t : Layout) (h : Header) (books : Books) → IsOutput t h books [] []
 unfolding IsOutput
@@ -102,13 +103,13 @@ output_alone t h books body first without answer =
 
 module _ (t : Layout) (h : Header) (unread held : Option (List ℕ)) (old : Books) where
   -- the whole frames that were read are entered and answered, and nothing waits
-  pub record Going (left written : Option (List ℕ)) (now : Books) (c : Connected) : Type 0 where
+  pub record Going (left written : Option (List ℕ)) (now : Books) (c : ConnectionState) : Type 0 where
     pub bodies : List (List ℕ)
-    pub served : Served t h unread left held written old now bodies c.peer.held
+    pub served : Serves (agreed t h) (standing unread held old) (standing left written now) bodies c.peer.held
     pub partial : NoFrame h c.peer.held
     pub none : c.waiting ≡ []
 
-  served_none : StaysWithout old → Served t h unread unread held held old old [] []
+  served_none : StaysWithout old → Serves (agreed t h) (standing unread held old) (standing unread held old) [] []
   served_none without = record {
     read = keeps_self unread;
     fit = tt;
@@ -118,16 +119,16 @@ module _ (t : Layout) (h : Header) (unread held : Option (List ℕ)) (old : Book
     answers = Appends-nil held;
   }
 
-  pub at_first : (c : Connected) → StaysWithout old → c.peer.held ≡ [] → c.waiting ≡ [] → Going unread held old c
+  pub at_first : (c : ConnectionState) → StaysWithout old → c.peer.held ≡ [] → c.waiting ≡ [] → Going unread held old c
   at_first c without empty none = record {
     bodies = [];
-    served = subst (Served t h unread unread held held old old []) (sym empty) (served_none without);
+    served = subst (Serves (agreed t h) (standing unread held old) (standing unread held old) []) (sym empty) (served_none without);
     partial = subst (NoFrame h) (sym empty) (no_byte h);
     none = none;
   }
 
   -- nothing is written yet
-  pub kept_first : (may_leave : List Instruction → Type 0) → StaysWithout old → Stay may_leave old → AreKept t h held held old may_leave
+  pub kept_first : (may_leave : List Instruction → Type 0) → StaysWithout old → Stay may_leave old → AreKept (agreed t h) held held old may_leave
   kept_first may_leave without stay = record {
     bodies = [];
     answers = [];
@@ -139,12 +140,12 @@ module _ (t : Layout) (h : Header) (unread held : Option (List ℕ)) (old : Book
   }
 
   -- there is no memory for a block
-  pub no_block : StaysWithout old → WithoutMemory t h unread unread held held old old
+  pub no_block : StaysWithout old → WithoutMemory (agreed t h) (standing unread held old) (standing unread held old)
   no_block without = (old, [], [], served_none without, inl refl)
 
-  module _ (left written : Option (List ℕ)) (now : Books) (c : Connected) (going : Going left written now c) where
+  module _ (left written : Option (List ℕ)) (now : Books) (c : ConnectionState) (going : Going left written now c) where
     -- a read that fails takes nothing
-    pub unread_now : (next : Option (List ℕ)) → Keeps left next → Whole t h unread next held written old now (λ bodies rest. Unit {0})
+    pub unread_now : (next : Option (List ℕ)) → Keeps left next → IsWhole (agreed t h) (standing unread held old) (standing next written now) (λ bodies rest. Unit {0})
     unread_now next kept = (
       going.bodies,
       c.peer.held,
@@ -161,7 +162,7 @@ module _ (t : Layout) (h : Header) (unread held : Option (List ℕ)) (old : Book
     )
 
     -- what was written is kept
-    pub kept_now : (may_leave : List Instruction → Type 0) → Stay may_leave now → AreKept t h held written old may_leave
+    pub kept_now : (may_leave : List Instruction → Type 0) → Stay may_leave now → AreKept (agreed t h) held written old may_leave
     kept_now may_leave stay = record {
       bodies = going.bodies;
       answers = going.served.bytes;
@@ -173,7 +174,8 @@ module _ (t : Layout) (h : Header) (unread held : Option (List ℕ)) (old : Book
     }
 
     -- so it is where the log fails, and nothing more is written
-    pub kept_failed : (next : Option (List ℕ)) (may_leave : List Instruction → Type 0) → Keeps written next → StayBehind may_leave now.orders → AreKept t h held next old may_leave
+    pub kept_failed : (next : Option (List ℕ)) (may_leave : List Instruction → Type 0) → Keeps written next → StayBehind may_leave now.orders
+        → AreKept (agreed t h) held next old may_leave
     kept_failed next may_leave keeps stay = record {
       bodies = going.bodies;
       answers = going.served.bytes;
@@ -186,10 +188,10 @@ module _ (t : Layout) (h : Header) (unread held : Option (List ℕ)) (old : Book
 
     -- the input ends
     pub at_end : (next : Option (List ℕ)) → Consumes left next [] → IsAtEnd next → (result : Result Report ServiceFault) → EndsAt c.peer.held result
-        → Leaves t h unread next held written old now result
+        → Leaves (agreed t h) (standing unread held old) (standing next written now) result
     at_end next read end result ends = by result ends
       where
-        served : Served t h unread next held written old now going.bodies c.peer.held
+        served : Serves (agreed t h) (standing unread held old) (standing next written now) going.bodies c.peer.held
         served = record {
           fit = going.served.fit;
           books = going.served.books;
@@ -199,7 +201,7 @@ module _ (t : Layout) (h : Header) (unread held : Option (List ℕ)) (old : Book
           read = subst (Consumes unread next) (append-nil (frames_of h going.bodies ++ c.peer.held)) (Consumes-trans unread left next _ _ going.served.read read);
         }
 
-        by : (result : Result Report ServiceFault) → EndsAt c.peer.held result → Leaves t h unread next held written old now result
+        by : (result : Result Report ServiceFault) → EndsAt c.peer.held result → Leaves (agreed t h) (standing unread held old) (standing next written now) result
         by (Ok report) ends = (going.bodies, c.peer.held, served, going.partial, (ends, end))
         by (Err CutFrame) ends = (going.bodies, c.peer.held, served, going.partial, (ends, end))
         by (Err Read) ends = absurd ends
@@ -209,12 +211,12 @@ module _ (t : Layout) (h : Header) (unread held : Option (List ℕ)) (old : Book
         by (Err Log) ends = absurd ends
 
     -- nothing more is read
-    pub reads_no_more : Whole t h unread left held written old now (λ bodies rest. Unit {0})
+    pub reads_no_more : IsWhole (agreed t h) (standing unread held old) (standing left written now) (λ bodies rest. Unit {0})
     reads_no_more = (going.bodies, c.peer.held, going.served, going.partial, tt)
 
-    module _ (next : Option (List ℕ)) (block : List ℕ) (c2 : Connected) (now2 : Books) (turned : Turned) (law : BodiesGoOn)
+    module _ (next : Option (List ℕ)) (block : List ℕ) (c2 : ConnectionState) (now2 : Books) (turned : Turned) (law : BodiesGoOn)
         (table : c.peer.table ≡ t) (header : c.peer.header ≡ h) (table2 : c2.peer.table ≡ t) (header2 : c2.peer.header ≡ h)
-        (read : Consumes left next block) (taken : TakesAll c c2 now now2 block turned) where
+        (read : Consumes left next block) (taken : TakesAll (at_books c now) (at_books c2 now2) block turned) where
       abbrev mid : Books
       mid = books_after_bodies t now taken.bodies
 
@@ -255,7 +257,7 @@ module _ (t : Layout) (h : Header) (unread held : Option (List ℕ)) (old : Book
       stops : StopsAt c2.peer mid now2 behind turned.stopped
       stops = subst (λ (u : Layout). StopsAt c2.peer (books_after_bodies u now taken.bodies) now2 behind turned.stopped) table taken.stops
 
-      served_to : (shown : Option (List ℕ)) → Appends written shown c2.waiting → Served t h unread next held shown old mid all_bodies (c2.peer.held ++ behind)
+      served_to : (shown : Option (List ℕ)) → Appends written shown c2.waiting → Serves (agreed t h) (standing unread held old) (standing next shown mid) all_bodies (c2.peer.held ++ behind)
       served_to shown appends = record {
         read = subst (Consumes unread next) bytes_are (Consumes-trans unread left next _ _ going.served.read read);
         fit = all_fit;
@@ -266,7 +268,7 @@ module _ (t : Layout) (h : Header) (unread held : Option (List ℕ)) (old : Book
       }
 
       -- a block was taken whole
-      pub goes_on : (shown : Option (List ℕ)) (c3 : Connected) → Appends written shown c2.waiting → turned.stopped ≡ None → c3.peer ≡ c2.peer → c3.waiting ≡ []
+      pub goes_on : (shown : Option (List ℕ)) (c3 : ConnectionState) → Appends written shown c2.waiting → turned.stopped ≡ None → c3.peer ≡ c2.peer → c3.waiting ≡ []
           → Going next shown now2 c3
       goes_on shown c3 appends none same empty =
           let end = subst (StopsAt c2.peer mid now2 behind) none stops in
@@ -274,42 +276,42 @@ module _ (t : Layout) (h : Header) (unread held : Option (List ℕ)) (old : Book
           ap (λ (l : List ℕ). c2.peer.held ++ l) end.0 ∙ append-nil c2.peer.held ∙ ap (λ (p : Unfinished). p.held) (sym same) in
           record {
             bodies = all_bodies;
-            served = subst (λ (b : Books). Served t h unread next held shown old b all_bodies c3.peer.held) (sym end.2)
-                (subst (Served t h unread next held shown old mid all_bodies) held_is (served_to shown appends));
+            served = subst (λ (b : Books). Serves (agreed t h) (standing unread held old) (standing next shown b) all_bodies c3.peer.held) (sym end.2)
+                (subst (Serves (agreed t h) (standing unread held old) (standing next shown mid) all_bodies) held_is (served_to shown appends));
             partial = subst (λ (p : Unfinished). NoFrame h p.held) (sym same) (subst (λ (k : Header). NoFrame k c2.peer.held) header2 end.1);
             none = empty;
           }
 
       -- a header isn't of digits
       pub ends_bad : (shown : Option (List ℕ)) → BadIsNoFrame → Appends written shown c2.waiting → turned.stopped ≡ Some peer.BadHeader
-          → Whole t h unread next held shown old now2 (λ bodies rest. is_bad_header h rest ≡ true)
+          → IsWhole (agreed t h) (standing unread held old) (standing next shown now2) (λ bodies rest. is_bad_header h rest ≡ true)
       ends_bad shown bad_law appends is =
           let end = subst (StopsAt c2.peer mid now2 behind) is stops in
           let bad = subst (λ (k : Header). is_bad_header k (c2.peer.held ++ behind) ≡ true) header2 end.1 in (
             all_bodies,
             c2.peer.held ++ behind,
-            subst (λ (b : Books). Served t h unread next held shown old b all_bodies (c2.peer.held ++ behind)) (sym end.0) (served_to shown appends),
+            subst (λ (b : Books). Serves (agreed t h) (standing unread held old) (standing next shown b) all_bodies (c2.peer.held ++ behind)) (sym end.0) (served_to shown appends),
             bad_law h (c2.peer.held ++ behind) bad,
             bad,
           )
 
-      refused_memory : turned.stopped ≡ Some peer.Memory → Refuses t h [] mid now2 (c2.peer.held ++ behind) peer.Memory
+      refused_memory : turned.stopped ≡ Some peer.Memory → Refuses (unfinished (agreed t h) []) mid now2 (c2.peer.held ++ behind) peer.Memory
       refused_memory is =
           let end = subst (StopsAt c2.peer mid now2 behind) is stops in
-          subst (λ (k : Header). Refuses t k c2.peer.held mid now2 behind peer.Memory) header2
-          (subst (λ (u : Layout). Refuses u c2.peer.header c2.peer.held mid now2 behind peer.Memory) table2 end)
+          subst (λ (k : Header). Refuses (unfinished (agreed t k) c2.peer.held) mid now2 behind peer.Memory) header2
+          (subst (λ (u : Layout). Refuses (unfinished (agreed u c2.peer.header) c2.peer.held) mid now2 behind peer.Memory) table2 end)
 
       -- memory ran out
-      pub ends_memory : (shown : Option (List ℕ)) → Appends written shown c2.waiting → turned.stopped ≡ Some peer.Memory → WithoutMemory t h unread next held shown old now2
+      pub ends_memory : (shown : Option (List ℕ)) → Appends written shown c2.waiting → turned.stopped ≡ Some peer.Memory → WithoutMemory (agreed t h) (standing unread held old) (standing next shown now2)
       ends_memory shown appends is = (mid, all_bodies, c2.peer.held ++ behind, served_to shown appends, refused_memory is)
 
       -- either way
       pub ends_stopped : (shown : Option (List ℕ)) (fault : PeerFault) (result : ServiceFault) → BadIsNoFrame → Appends written shown c2.waiting
-          → turned.stopped ≡ Some fault → result ≡ stop_of fault → Leaves t h unread next held shown old now2 (Err result)
+          → turned.stopped ≡ Some fault → result ≡ stop_of fault → Leaves (agreed t h) (standing unread held old) (standing next shown now2) (Err result)
       ends_stopped shown peer.BadHeader result bad_law appends is same =
-          subst (λ (f : ServiceFault). Leaves t h unread next held shown old now2 (Err f)) (sym same) (ends_bad shown bad_law appends is)
+          subst (λ (f : ServiceFault). Leaves (agreed t h) (standing unread held old) (standing next shown now2) (Err f)) (sym same) (ends_bad shown bad_law appends is)
       ends_stopped shown peer.Memory result bad_law appends is same =
-          subst (λ (f : ServiceFault). Leaves t h unread next held shown old now2 (Err f)) (sym same) (ends_memory shown appends is)
+          subst (λ (f : ServiceFault). Leaves (agreed t h) (standing unread held old) (standing next shown now2) (Err f)) (sym same) (ends_memory shown appends is)
 
       -- ---- what was written is kept
 
@@ -346,12 +348,12 @@ module _ (t : Layout) (h : Header) (unread held : Option (List ℕ)) (old : Book
       entered (Some peer.BadHeader) is = entered_same (subst (StopsAt c2.peer mid now2 behind) is stops).0
       entered (Some peer.Memory) is = by (refused_memory is)
         where
-          by : Refuses t h [] mid now2 (c2.peer.held ++ behind) peer.Memory → Entered
+          by : Refuses (unfinished (agreed t h) []) mid now2 (c2.peer.held ++ behind) peer.Memory → Entered
           by (inl same) = entered_same same
           by (inr alone) = entered_more alone.0 alone.4.1.0 (alone.4.0 ∙ body_alone t mid alone.0) alone.4.1.1
 
       pub kept_after : (shown : Option (List ℕ)) (part more : List ℕ) (may_leave : List Instruction → Type 0) → part ++ more ≡ c2.waiting → Appends written shown part
-          → Stay may_leave now2 → AreKept t h held shown old may_leave
+          → Stay may_leave now2 → AreKept (agreed t h) held shown old may_leave
       kept_after shown part more may_leave parts appends stay =
           let all = entered turned.stopped refl in
           record {
@@ -370,7 +372,7 @@ module _ (t : Layout) (h : Header) (unread held : Option (List ℕ)) (old : Book
 
       -- keeping or writing failed
       pub kept_hands : (fault : ServiceFault) (shown : Option (List ℕ)) (may_leave : List Instruction → Type 0) → Hands written shown c2.waiting (Err fault)
-          → StayBehind may_leave now.orders → UnlessLog {T = Unit {0}} (Err fault) (Stay may_leave now2) → AreKept t h held shown old may_leave
+          → StayBehind may_leave now.orders → UnlessLog {T = Unit {0}} (Err fault) (Stay may_leave now2) → AreKept (agreed t h) held shown old may_leave
       kept_hands Log shown may_leave hands before stay = kept_failed shown may_leave hands before
       kept_hands Write shown may_leave hands before stay =
           kept_after shown (take hands.0 c2.waiting) (drop hands.0 c2.waiting) may_leave (take-append-drop hands.0 c2.waiting) hands.2 stay
@@ -380,7 +382,7 @@ module _ (t : Layout) (h : Header) (unread held : Option (List ℕ)) (old : Book
       kept_hands Memory shown may_leave hands before stay = absurd hands
 
       pub leaves_hands : (fault : ServiceFault) (shown : Option (List ℕ)) → Hands written shown c2.waiting (Err fault)
-          → Leaves t h unread next held shown old now2 (Err fault)
+          → Leaves (agreed t h) (standing unread held old) (standing next shown now2) (Err fault)
       leaves_hands Log shown hands = tt
       leaves_hands Write shown hands = tt
       leaves_hands Read shown hands = absurd hands
@@ -390,5 +392,5 @@ module _ (t : Layout) (h : Header) (unread held : Option (List ℕ)) (old : Book
 
       -- all of it was written
       pub kept_all : (shown : Option (List ℕ)) (may_leave : List Instruction → Type 0) → Appends written shown c2.waiting → Stay may_leave now2
-          → AreKept t h held shown old may_leave
+          → AreKept (agreed t h) held shown old may_leave
       kept_all shown may_leave appends stay = kept_after shown c2.waiting [] may_leave (append-nil c2.waiting) appends stay

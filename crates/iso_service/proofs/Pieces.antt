@@ -9,16 +9,17 @@ use Rattle.iso_wire.specs.Framing.{frame_of, frames_of, AllFit, largest, NoFrame
 use Rattle.iso_order.specs.Order.{Instruction}
 use Rattle.iso_issuer.specs.Books.{Books}
 use Rattle.iso_issuer.specs.Laws.{books_after}
+use Rattle.iso_host.specs.Links.{agreed}
 use Rattle.iso_host.specs.Asking.{asked_of, orders_in, orders_of}
 use Rattle.iso_host.specs.Entering.{books_after_bodies, BodiesGoOn, StaysWithout}
 use Rattle.iso_host.specs.Handling.{books_after_body}
 use Rattle.iso_host.specs.Output.{IsAnswer, IsOutputFrom, IsOutput}
-use Rattle.iso_host.specs.Peers.{TakesPiece}
+use Rattle.iso_host.specs.Peers.{TakesPiece, Refuses, one_peer}
 use Rattle.iso_host.specs.declared.peer.PeerFault.{PeerFault}
 use Rattle.iso_host.specs.declared.handled.Handled.{Handled}
-use Rattle.iso_peers.specs.Connection.{Connected}
+use Rattle.iso_peers.specs.Connection.{ConnectionState}
 use Rattle.iso_host.specs.declared.peer.Taken.{Taken}
-use Rattle.iso_peers.specs.Turn.{RefusesOf, TakesAll, TakesOf}
+use Rattle.iso_peers.specs.Turn.{TakesAll, TakesOf, at_books}
 
 -- ---- one body more
 
@@ -33,7 +34,7 @@ fit_more h [] body f k = (k, tt)
 fit_more h (x ∷ xs) body f k = (f.0, fit_more h xs body f.1 k)
 
 output_from_more : (t : Layout) (h : Header) (books : Books) (earlier bodies : List (List ℕ)) (body out first : List ℕ)
-    → IsOutputFrom t h books earlier bodies out → IsAnswer t h (books_after_bodies t books (earlier ++ bodies)) body first → IsOutputFrom t h books earlier (bodies ++ body ∷ []) (out ++ first)
+    → IsOutputFrom (agreed t h) books earlier bodies out → IsAnswer t h (books_after_bodies t books (earlier ++ bodies)) body first → IsOutputFrom (agreed t h) books earlier (bodies ++ body ∷ []) (out ++ first)
 output_from_more t h books earlier [] body out first is answer = (
   first,
   [],
@@ -70,7 +71,7 @@ body_alone t books body = ap (books_after books) (sym (append-nil (orders_in (as
 -- ---- the bytes so far
 
 -- the bodies of the frames that these bytes end, behind what the peer held
-pub record SoFar (t : Layout) (h : Header) (old new : Connected) (before after : Books) (bytes : List ℕ) : Type 0 where
+pub record SoFar (t : Layout) (h : Header) (old new : ConnectionState) (before after : Books) (bytes : List ℕ) : Type 0 where
   pub bodies : List (List ℕ)
   pub joined : old.peer.held ++ bytes ≡ frames_of h bodies ++ new.peer.held
   pub fit : AllFit h bodies
@@ -80,7 +81,7 @@ pub record SoFar (t : Layout) (h : Header) (old new : Connected) (before after :
   pub books : after ≡ books_after_bodies t before bodies
 
 module _ (t : Layout) (h : Header) where
-  pub at_first : (c : Connected) (books : Books) → StaysWithout books → SoFar t h c c books books []
+  pub at_first : (c : ConnectionState) (books : Books) → StaysWithout books → SoFar t h c c books books []
   at_first c books without = record {
     bodies = [];
     joined = append-nil c.peer.held;
@@ -92,8 +93,8 @@ module _ (t : Layout) (h : Header) where
   }
 
   -- one piece more
-  pub next : (old mid new : Connected) (before between after : Books) (bytes piece : List ℕ) (handled : Option Handled) → BodiesGoOn
-      → SoFar t h old mid before between bytes → TakesPiece t h mid.peer.held new.peer.held between after piece mid.waiting new.waiting handled
+  pub next : (old mid new : ConnectionState) (before between after : Books) (bytes piece : List ℕ) (handled : Option Handled) → BodiesGoOn
+      → SoFar t h old mid before between bytes → TakesPiece (agreed t h) (one_peer mid.peer.held between mid.waiting) (one_peer new.peer.held after new.waiting) piece handled
       → SoFar t h old new before after (bytes ++ piece)
   next old mid new before between after bytes piece None law so took = record {
     bodies = so.bodies;
@@ -131,13 +132,13 @@ pub behind : (bytes piece : List ℕ) (used : ℕ) → piece ≡ take (length by
 behind bytes piece used is = is ∙ take_all (length bytes - used) (drop used bytes) (omega (arith, length-drop used bytes))
 
 -- what was taken of them
-pub next_taken : (old mid new : Connected) (before between after : Books) (bytes : List ℕ) (used : ℕ) (taken : Taken) → BodiesGoOn
+pub next_taken : (old mid new : ConnectionState) (before between after : Books) (bytes : List ℕ) (used : ℕ) (taken : Taken) → BodiesGoOn
     → mid.peer.table ≡ old.peer.table → mid.peer.header ≡ old.peer.header → SoFar old.peer.table old.peer.header old mid before between (take used bytes)
-    → TakesOf mid new between after (drop used bytes) taken → SoFar old.peer.table old.peer.header old new before after (take (used + taken.used) bytes)
+    → TakesOf (at_books mid between) (at_books new after) (drop used bytes) taken → SoFar old.peer.table old.peer.header old new before after (take (used + taken.used) bytes)
 next_taken old mid new before between after bytes used taken law table header so took =
     let piece = take taken.used (drop used bytes) in
-    let here = subst (λ (t : Layout). TakesPiece t mid.peer.header mid.peer.held new.peer.held between after piece mid.waiting new.waiting taken.handled) table took.piece in
-    let there = subst (λ (h : Header). TakesPiece old.peer.table h mid.peer.held new.peer.held between after piece mid.waiting new.waiting taken.handled) header here in
+    let here = subst (λ (t : Layout). TakesPiece (agreed t mid.peer.header) (one_peer mid.peer.held between mid.waiting) (one_peer new.peer.held after new.waiting) piece taken.handled) table took.piece in
+    let there = subst (λ (h : Header). TakesPiece (agreed old.peer.table h) (one_peer mid.peer.held between mid.waiting) (one_peer new.peer.held after new.waiting) piece taken.handled) header here in
     subst (SoFar old.peer.table old.peer.header old new before after) (sym (take-add used taken.used bytes))
     (next old.peer.table old.peer.header old mid new before between after (take used bytes) piece taken.handled law so there)
 
@@ -155,16 +156,16 @@ no_frame law h =
 
 -- after a piece that is taken, none begins
 pub no_frame_after : SplitsSomehow → (t : Layout) (h : Header) (held kept : List ℕ) (old new : Books) (piece out grown : List ℕ) (handled : Option Handled)
-    → TakesPiece t h held kept old new piece out grown handled → NoFrame h kept
+    → TakesPiece (agreed t h) (one_peer held old out) (one_peer kept new grown) piece handled → NoFrame h kept
 no_frame_after law t h held kept old new piece out grown None took = took.1.no_frame
 no_frame_after law t h held kept old new piece out grown (Some handled) took = subst (NoFrame h) (sym took.3) (no_frame law h)
 
 -- a piece is refused
-pub all_refused : (old mid new : Connected) (before between after : Books) (bytes : List ℕ) (used : ℕ) (fault : PeerFault) → used ≤ length bytes
-    → SoFar old.peer.table old.peer.header old mid before between (take used bytes) → new ≡ mid → RefusesOf mid.peer between after (drop used bytes) fault
-    → TakesAll old new before after bytes (record { used = used; stopped = Some fault })
+pub all_refused : (old mid new : ConnectionState) (before between after : Books) (bytes : List ℕ) (used : ℕ) (fault : PeerFault) → used ≤ length bytes
+    → SoFar old.peer.table old.peer.header old mid before between (take used bytes) → new ≡ mid → Refuses mid.peer between after (drop used bytes) fault
+    → TakesAll (at_books old before) (at_books new after) bytes (record { used = used; stopped = Some fault })
 all_refused old mid new before between after bytes used fault within so same refused =
-    subst (λ (c : Connected). TakesAll old c before after bytes (record { used = used; stopped = Some fault })) (sym same) (record {
+    subst (λ (c : ConnectionState). TakesAll (at_books old before) (at_books c after) bytes (record { used = used; stopped = Some fault })) (sym same) (record {
       within = within;
       bodies = so.bodies;
       joined = so.joined;
@@ -172,13 +173,13 @@ all_refused old mid new before between after bytes used fault within so same ref
       answers = so.answers;
       output = so.output;
       waits = so.waits;
-      stops = subst (λ (b : Books). RefusesOf mid.peer b after (drop used bytes) fault) so.books refused;
+      stops = subst (λ (b : Books). Refuses mid.peer b after (drop used bytes) fault) so.books refused;
     })
 
 -- all bytes are taken
-pub all_taken : (old new : Connected) (before after : Books) (bytes : List ℕ) (used : ℕ) → used ≡ length bytes → new.peer.header ≡ old.peer.header
+pub all_taken : (old new : ConnectionState) (before after : Books) (bytes : List ℕ) (used : ℕ) → used ≡ length bytes → new.peer.header ≡ old.peer.header
     → SoFar old.peer.table old.peer.header old new before after (take used bytes) → NoFrame old.peer.header new.peer.held
-    → TakesAll old new before after bytes (record { used = used; stopped = None })
+    → TakesAll (at_books old before) (at_books new after) bytes (record { used = used; stopped = None })
 all_taken old new before after bytes used all header so none = record {
   within = omega (arith, all);
   bodies = so.bodies;

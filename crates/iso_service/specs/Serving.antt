@@ -2,15 +2,14 @@
 use Rattle.std.specs.Prelude.{◌≡◌, ◌≢◌, ℕ, true, List, [], ◌∷◌, ◌++◌, Result, Ok, Err}
 use Rattle.std.specs.declared.option.Option.{Option}
 use Rattle.std.specs.Io.KnownBytes.{Appends, Keeps, IsAtEnd}
-use Rattle.iso_table.specs.Layout.{Layout}
-use Rattle.iso_wire.specs.declared.header.Header.{Header}
 use Rattle.iso_wire.specs.Framing.{is_bad_header}
 use Rattle.iso_order.specs.Order.{Instruction}
 use Rattle.iso_issuer.specs.Books.{Books}
+use Rattle.iso_host.specs.Links.{Agreed}
 use Rattle.iso_host.specs.Entering.{books_after_bodies}
 use Rattle.iso_host.specs.Output.{IsOutput}
-use Rattle.iso_host.specs.Peers.{Refuses}
-use Rattle.iso_host.specs.Serving.{Served, Whole, IsPrefix}
+use Rattle.iso_host.specs.Peers.{Refuses, unfinished}
+use Rattle.iso_host.specs.Serving.{IsPrefix, Serves, IsWhole, standing, Standing}
 use Rattle.iso_host.specs.Writing.{WritesSome}
 use Rattle.iso_host.specs.declared.fault.Report.{Report}
 use Rattle.iso_host.specs.declared.peer.PeerFault.{PeerFault}
@@ -30,39 +29,37 @@ abbrev pub Stay : (List Instruction → Type 0) → Books → Type 0
 Stay may_leave books = StayBehind may_leave books.orders
 
 -- what was written is the output for these bodies, or its front, and each crash leaves the orders that they asked
-pub record AreKept (t : Layout) (h : Header) (held written : Option (List ℕ)) (old : Books)
+pub record AreKept (l : Agreed) (held written : Option (List ℕ)) (old : Books)
     (may_leave : List Instruction → Type 0) : Type 0 where
   pub bodies : List (List ℕ)
   pub answers : List ℕ
-  pub output : IsOutput t h old bodies answers
+  pub output : IsOutput l.table l.header old bodies answers
   pub shown : List ℕ
   pub front : IsPrefix shown answers
   pub appends : Appends held written shown
-  pub stay : Stay may_leave (books_after_bodies t old bodies)
+  pub stay : Stay may_leave (books_after_bodies l.table old bodies)
 
 -- ---- how it ends
 
-module _ (t : Layout) (h : Header) (unread left held written : Option (List ℕ))
-    (old new : Books) where
-  -- the whole frames before the bytes that were refused are entered and answered; of those without memory the order may be entered
-  abbrev pub WithoutMemory : Type 0
-  WithoutMemory =
-      (mid : Books) × (bodies : List (List ℕ)) × (rest : List ℕ)
-      × Served t h unread left held written old mid bodies rest
-      × Refuses t h [] mid new rest peer.Memory
+-- the whole frames before the bytes that were refused are entered and answered; of those without memory the order may be entered
+abbrev pub WithoutMemory : Agreed → Standing → Standing → Type 0
+WithoutMemory l before after =
+    (mid : Books) × (bodies : List (List ℕ)) × (rest : List ℕ)
+    × Serves l before (standing after.unread after.written mid) bodies rest
+    × Refuses (unfinished l []) mid after.books rest peer.Memory
 
-  -- what was read, entered and answered, by how it ends
-  abbrev pub Leaves : Result Report ServiceFault → Type 0
-  Leaves (Ok report) =
-      Whole t h unread left held written old new (λ bodies rest. (rest ≡ []) × IsAtEnd left)
-  Leaves (Err Read) = Whole t h unread left held written old new (λ bodies rest. Unit {0})
-  Leaves (Err BadHeader) =
-      Whole t h unread left held written old new (λ bodies rest. is_bad_header h rest ≡ true)
-  Leaves (Err CutFrame) =
-      Whole t h unread left held written old new (λ bodies rest. (rest ≢ []) × IsAtEnd left)
-  Leaves (Err Memory) = WithoutMemory
-  Leaves (Err Write) = Unit {0}
-  Leaves (Err Log) = Unit {0}
+-- what was read, entered and answered, by how it ends
+abbrev pub Leaves : Agreed → Standing → Standing → Result Report ServiceFault → Type 0
+Leaves l before after (Ok report) =
+    IsWhole l before after (λ bodies rest. (rest ≡ []) × IsAtEnd after.unread)
+Leaves l before after (Err Read) = IsWhole l before after (λ bodies rest. Unit {0})
+Leaves l before after (Err BadHeader) =
+    IsWhole l before after (λ bodies rest. is_bad_header l.header rest ≡ true)
+Leaves l before after (Err CutFrame) =
+    IsWhole l before after (λ bodies rest. (rest ≢ []) × IsAtEnd after.unread)
+Leaves l before after (Err Memory) = WithoutMemory l before after
+Leaves l before after (Err Write) = Unit {0}
+Leaves l before after (Err Log) = Unit {0}
 
 -- ---- one answer
 

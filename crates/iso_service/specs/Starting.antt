@@ -1,6 +1,5 @@
 -- A host over the journal at a path.
-use Rattle.std.specs.Prelude.{◌≡◌, ℕ, Bool, List, [], take, IsTrue, Some}
-use Rattle.sqlite_disk.specs.Disk.{Only}
+use Rattle.std.specs.Prelude.{◌≡◌, ℕ, Bool, List, [], take, Some}
 use Rattle.iso_log.specs.Slots.{records_of}
 use Rattle.iso_durable.specs.declared.host.DurableIssuer.{DurableIssuer}
 use Rattle.iso_durable.specs.Host.{IsConsistent}
@@ -10,17 +9,13 @@ use Rattle.iso_service.specs.Front.{front_fault}
 use Rattle.iso_service.specs.declared.fault.StartFault.{StartFault}
 use Rattle.iso_service.specs.declared.fault.StartFault.TheVariants.{File, Front, Damaged, Cut, NotMade, Unfit}
 
-module _ {D : Type 0} (seen : D → List ℕ) (may_leave : D → List ℕ → Type 0)
-    (is_usable is_clean : D → Bool) where
-  -- the host was opened over this file, with its orders, and none of them waits; the premises are those of `iso_journal::open`
-  pub record IsStarted (disk : D) (host : DurableIssuer (JournalLog D)) : Type 0 where
-    pub consistent : IsTrue (is_clean host.log.log.disk) → Only (seen disk) (may_leave disk)
-        → IsConsistent (λ l. IsReady seen may_leave is_usable l.log) (λ l. synced_orders seen l.log)
-        (λ l. pending_orders seen l.log) host
-    pub held : IsTrue (is_clean host.log.log.disk) → Only (seen disk) (may_leave disk)
-        → host.issuer.orders ≡ journal_orders (records_of (seen disk))
-    pub none : IsTrue (is_clean host.log.log.disk) → Only (seen disk) (may_leave disk)
-        → pending_orders seen host.log.log ≡ []
+-- the host was opened over a file of these bytes, with its orders, and none of them waits
+pub record IsStarted {D : Type 0} (seen : D → List ℕ) (may_leave : D → List ℕ → Type 0)
+    (is_usable : D → Bool) (file : List ℕ) (host : DurableIssuer (JournalLog D)) : Type 0 where
+  pub consistent : IsConsistent (λ l. IsReady seen may_leave is_usable l.log)
+      (λ l. synced_orders seen l.log) (λ l. pending_orders seen l.log) host
+  pub held : host.issuer.orders ≡ journal_orders (records_of file)
+  pub none : pending_orders seen host.log.log ≡ []
 
 -- the reason of a refusal by the first bytes of the file
 abbrev pub IsWhy : List ℕ → List ℕ → StartFault → Type 0

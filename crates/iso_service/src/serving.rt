@@ -2,6 +2,7 @@
 ghost use Rattle.std.specs.Prelude.{◌≡◌, ◌<◌, ◌≤◌, length, take, IfOk, OnErr};
 ghost use Rattle.std.specs.Io.KnownBytes.{Consumes, IsAtEnd, Keeps};
 ghost use Rattle.iso_peers.specs.Host.{IsInStep, IsKept};
+ghost use Rattle.iso_host.specs.Serving.{standing};
 ghost use Rattle.iso_service.specs.Serving.{Leaves, AreKept, EndsAt, stop_of};
 
 use crate::answering::{keep_and_answer, kept_outlive};
@@ -67,13 +68,13 @@ pub fn serve_kept<L: Log, R: Inlet, W: Outlet>(
 ) -> Result<Report, ServiceFault>
     // Nothing is written that isn't kept: however it ends, each crash leaves the orders of all that was answered.
     ensures kept { IsInStep L.is_ready L.synced L.pending host.old → IsKept host.old
-        → AreKept link.now.table link.now.header (W.contents writer.old) (W.contents writer.new)
-        host.old.host (L.may_leave host.new.log) }
+        → AreKept link.now (W.contents writer.old) (W.contents writer.new) host.old.host
+        (L.may_leave host.new.log) }
     // At `Ok`, `Read`, `BadHeader` and `CutFrame` all whole frames are entered and answered, at
     // `Memory` those in front; of `Write` and `Log` it says nothing.
-    ensures leaves { Leaves link.now.table link.now.header
-        (R.remaining reader.old) (R.remaining reader.new)
-        (W.contents writer.old) (W.contents writer.new) host.old.host host.new.host result }
+    ensures leaves { Leaves link.now
+        (standing (R.remaining reader.old) (W.contents writer.old) host.old.host)
+        (standing (R.remaining reader.new) (W.contents writer.new) host.new.host) result }
 {
     // the laws of a journal that goes on, and that bytes have one split into frames, for the prover
     one_journal(host.issuer());

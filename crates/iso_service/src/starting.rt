@@ -1,6 +1,7 @@
 //! A host over the journal at a path.
 
-ghost use Rattle.std.specs.Prelude.{◌≡◌, IfOk, IfErr, IfSome};
+ghost use Rattle.std.specs.Prelude.{◌≡◌, IfOk, IfErr, IfSome, IsTrue};
+ghost use Rattle.sqlite_disk.specs.Disk.{Only};
 ghost use Rattle.iso_record.specs.Heading.{heading_bytes};
 ghost use Rattle.iso_service.specs.Starting.{IsOfDisk, IsStarted, IsWhy};
 
@@ -74,7 +75,9 @@ pub fn start<J: Journals, W: Watch>(
     // At `Ok`, on a disk that didn't lie and shows what is on it, the log is ready, and the host
     // has exactly the orders of its file, of which none waits.
     ensures started { IfOk result (λ host. (disk : J.Disk)
-        × IsStarted J.Disk.seen J.Disk.may_leave J.Disk.is_usable J.Disk.is_clean disk host) }
+        × (IsTrue (J.Disk.is_clean host.log.log.disk)
+        → Only (J.Disk.seen disk) (J.Disk.may_leave disk)
+        → IsStarted J.Disk.seen J.Disk.may_leave J.Disk.is_usable (J.Disk.seen disk) host)) }
     // Where the file's bytes are known, a fault about its front is what its first 128 bytes tell.
     ensures fault { IfErr result (λ e. IfSome (J.held_at journals.now path.now)
         (λ held. IsWhy (heading_bytes heading.now) held e)) }

@@ -1,7 +1,7 @@
 //! What a peer sends, frame after frame, and how many came of each kind.
 ghost use Rattle.std.specs.Prelude.{◌≡◌, IfOk};
 ghost use Rattle.iso_peers.specs.Host.{IsInStep};
-ghost use Rattle.iso_peers.specs.Turn.{TakesAll};
+ghost use Rattle.iso_peers.specs.Turn.{TakesAll, at_books};
 
 use crate::counting::count_taken;
 use iso_durable::{Log, LogFailed};
@@ -17,8 +17,8 @@ pub(crate) fn take_counted<L: Log>(
     bytes: &[u8],
     report: &mut Report,
 ) -> Result<Turned, LogFailed>
-    ensures took { IfOk result
-        (TakesAll connection.old connection.new host.old.host host.new.host bytes.now) }
+    ensures took { IfOk result (TakesAll (at_books connection.old host.old.host)
+        (at_books connection.new host.new.host) bytes.now) }
     ensures table { connection.new.peer.table ≡ connection.old.peer.table }
     ensures header { connection.new.peer.header ≡ connection.old.peer.header }
     ensures log { host.new.log ≡ host.old.log }

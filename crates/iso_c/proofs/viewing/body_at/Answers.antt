@@ -1,6 +1,6 @@
 use Rattle.std.proofs.Common.{◌-◌, ◌≤◌, List, ℕ, Some, length, take, drop, ap, ◌∙◌, arith}
 use Rattle.std.proofs.lemmas.List.{length-drop, length-take-le}
-use Rattle.iso_wire.specs.Viewing.{Viewed}
+use Rattle.iso_wire.specs.Viewing.{ViewContents}
 use Rattle.iso_wire.specs.Reading.{message_at}
 use Rattle.iso_c.proofs.ViewingLemmas.{body_missing}
 use Rattle.iso_c.proofs.viewing.body_at.Goals as goal
@@ -12,7 +12,7 @@ returns-in_default-clause-fault c =
 
 pub returns-clause-ok : goal.returns-clause-ok
 returns-clause-ok c =
-    let view : Viewed = c.in_ok-viewed.viewed in
+    let view : ViewContents = c.in_ok-viewed.viewed in
     let b : List ℕ = c.args.bytes.now in
     let start : ℕ = c.in-Some.place.start in
     let end : ℕ = c.in-Some.place.end in

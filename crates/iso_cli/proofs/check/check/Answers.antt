@@ -2,7 +2,7 @@ use Rattle.std.proofs.Common.{List, ℕ, ap, subst, ◌∙◌, arith}
 use Rattle.std.proofs.lemmas.Result.{err_from_is_err_and}
 use Rattle.std.specs.Io.KnownBytes.{Appends}
 use Rattle.iso_table.specs.Layout.{Layout}
-use Rattle.iso_cli.specs.Check.{ChecksOver}
+use Rattle.iso_cli.specs.Check.{ChecksOnStreams}
 use Rattle.iso_cli.specs.Stop.{status_of}
 use Rattle.iso_cli.proofs.RefusedLemmas.{handed_ok, handed_turns, handed_words, write_stops, write_turns, write_words}
 use Rattle.iso_cli.proofs.StreamingLemmas.{where_ok}
@@ -45,7 +45,7 @@ returns-clause-line g c =
     let table : Layout = c.in_ok-table.table in
     let old = g.O.Outlet.contents c.args.output.now in
     let new = g.O.Outlet.contents c.write_output.new.output in
-    where_ok c.write_output.result (Appends old new c.as_bytes.result.now) (ChecksOver (g.S.Source.file c.args.source.now) c.args.table.now old new)
+    where_ok c.write_output.result (Appends old new c.as_bytes.result.now) (ChecksOnStreams (g.S.Source.file c.args.source.now) c.args.table.now old new)
     (λ written. (table, c.in_ok-table.ensures.ok, subst (λ (l : List ℕ). Appends old new l) (c.as_bytes.ensures.value ∙ c.in_ok-line.ensures) written))
     c.write_output.ensures.written
 

@@ -2,7 +2,8 @@ use Rattle.std.proofs.Common.{rules, ◌≡◌, ℕ, List, Some, subst, sym, ref
 use Rattle.iso_host.specs.declared.peer.PeerFault.TheVariants.{Memory}
 use Rattle.iso_issuer.specs.Books.{Books}
 use Rattle.iso_host.specs.Entering.{StaysWithout}
-use Rattle.iso_guard.specs.Guarding.{Guarded, guard_of}
+use Rattle.iso_host.specs.Peers.{one_peer}
+use Rattle.iso_guard.specs.Guarding.{guard_of}
 use Rattle.iso_guard.specs.Taking.{TakesGuarded}
 use Rattle.iso_guard.proofs.Frames.{holds_nothing, frames_enter}
 use Rattle.iso_guard.proofs.taking.take_held.Goals as goal
@@ -12,10 +13,9 @@ returns-then-is_err-clause-took g c =
     let guard = guard_of c.args.link.now c.args.terms.now in
     let held = c.args.held.now.items in
     let waiting = c.args.waiting.now.items in
-    let old : Guarded = record { guard = guard; held = held; waiting = waiting } in
     let without = subst (λ (b : Books). StaysWithout b) c.issuer.ensures c.one_journal.ensures.none in
     let same : c.extend_from_slice.new.self.items ≡ held = search rules in
-    subst (λ (l : List ℕ). TakesGuarded old (record { guard = guard; held = l; waiting = waiting }) c.args.host.now c.args.host.now c.args.bytes.now
+    subst (λ (l : List ℕ). TakesGuarded guard (one_peer held c.args.host.now waiting) (one_peer l c.args.host.now waiting) c.args.bytes.now
     (record { used = 0; stopped = Some Memory })) (sym same) (holds_nothing guard held waiting c.args.bytes.now c.args.host.now c.args.host.now without refl)
 
 pub returns-clause-allowed : goal.returns-clause-allowed

@@ -22,9 +22,9 @@ returns-in-Err-answer_body-clause-refused c =
     let head = take (begun.count + 1) c.head_with-head.result in
     let short : length (head_of begun) < header_size h = omega (arith, c.requires.outside.short, length-take begun.count begun.head) in
     let is = c.in-Ok-Some.is in
-    let length_is : c.in-Ok-Some.field-0 ≡ Some c.in-Ok-Some.length = rw is at c.in-Ok-Some.field-0-is in
+    let length_is : c.in-Ok-Some.field-0 ≡ Some c.in-Ok-Some.n = rw is at c.in-Ok-Some.field-0-is in
     let told = subst (λ (f : Option ℕ). TellsLength h head (Ok f)) length_is (subst (TellsLength h head) is c.body_length-counted.ensures) in
-    let joined = ends_empty h (head_of begun) head bytes _ c.in-Ok-Some.length c.head_with-head.ensures short (first_of bytes (some_of bytes c.if-is_empty.ensures)) told.0 c.if-length-eq0.true in
+    let joined = ends_empty h (head_of begun) head bytes _ c.in-Ok-Some.n c.head_with-head.ensures short (first_of bytes (some_of bytes c.if-is_empty.ensures)) told.0 c.if-n-eq0.true in
     refuses_behind c.args.table.now h (head_of begun) c.args.issuer.now c.answer_body.new.issuer bytes [] (drop 1 bytes) joined (omega arith) c.in-Err-answer_body.ensures.memory
 
 pub returns-in-Err-clause-refused : goal.returns-in-Err-clause-refused

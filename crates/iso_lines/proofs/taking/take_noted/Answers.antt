@@ -4,7 +4,7 @@ use Rattle.iso_wire.specs.declared.header.Header.{Header}
 use Rattle.iso_wire.specs.Framing.{NoFrame}
 use Rattle.iso_issuer.specs.Books.{Books}
 use Rattle.iso_host.specs.Entering.{StaysWithout}
-use Rattle.iso_peers.specs.Turn.{TakesOf}
+use Rattle.iso_peers.specs.Turn.{TakesOf, at_books}
 use Rattle.iso_lines.proofs.Heard.{more_heard, so_heard, take_heard}
 use Rattle.iso_lines.proofs.Pieces.{at_first, next_taken, no_frame_after, all_taken}
 use Rattle.iso_lines.proofs.taking.take_noted.Goals as goal
@@ -29,7 +29,7 @@ pieces-preserved g c =
     let new = c.take.new in
     let rest : take (length bytes - c.pieces.used) (drop c.pieces.used bytes) ≡ drop c.pieces.used bytes =
     take_all (length bytes - c.pieces.used) (drop c.pieces.used bytes) (omega (arith, length-drop c.pieces.used bytes)) in
-    let took = subst (λ (l : List ℕ). TakesOf c.pieces.connection new.connection c.pieces.host.host new.self.host l c.in-Ok.taken) rest c.in-Ok.ensures.took in
+    let took = subst (λ (l : List ℕ). TakesOf (at_books c.pieces.connection c.pieces.host.host) (at_books new.connection new.self.host) l c.in-Ok.taken) rest c.in-Ok.ensures.took in
     record {
       within = omega (arith, took.within, length-drop c.pieces.used bytes, so.within);
       table = c.take.ensures.table ∙ so.table;
@@ -50,7 +50,7 @@ returns-then-used-bytes-clause-took g c =
     let new = c.take.new in
     let rest : take (length bytes - c.pieces.used) (drop c.pieces.used bytes) ≡ drop c.pieces.used bytes =
     take_all (length bytes - c.pieces.used) (drop c.pieces.used bytes) (omega (arith, length-drop c.pieces.used bytes)) in
-    let took = subst (λ (l : List ℕ). TakesOf old new.connection c.pieces.host.host new.self.host l c.in-Ok.taken) rest c.in-Ok.ensures.took in
+    let took = subst (λ (l : List ℕ). TakesOf (at_books old c.pieces.host.host) (at_books new.connection new.self.host) l c.in-Ok.taken) rest c.in-Ok.ensures.took in
     let so_far = next_taken c.args.connection.now old new.connection c.args.host.now.host c.pieces.host.host new.self.host bytes c.pieces.used c.in-Ok.taken
     c.one_journal.ensures.more so.table so.header so.so_far took in
     let none = no_frame_after c.splits_once.ensures.some old.peer.table old.peer.header old.peer.held new.connection.peer.held c.pieces.host.host new.self.host

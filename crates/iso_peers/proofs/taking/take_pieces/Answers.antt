@@ -6,7 +6,7 @@ use Rattle.iso_issuer.specs.Books.{Books}
 use Rattle.iso_issuer.specs.Laws.{books_after}
 use Rattle.iso_host.specs.Asking.{orders_of}
 use Rattle.iso_host.specs.Entering.{StaysWithout}
-use Rattle.iso_peers.specs.Turn.{TakesOf}
+use Rattle.iso_peers.specs.Turn.{TakesOf, at_books}
 use Rattle.iso_peers.proofs.InStep.{after_more}
 use Rattle.iso_peers.proofs.Pieces.{at_first, by_orders, next_taken, no_frame_after, all_taken}
 use Rattle.iso_peers.proofs.taking.take_pieces.Goals as goal
@@ -43,7 +43,7 @@ pieces-preserved c =
     let new = c.take_piece.new in
     let rest : take (length bytes - c.pieces.used) (drop c.pieces.used bytes) ≡ drop c.pieces.used bytes =
     take_all (length bytes - c.pieces.used) (drop c.pieces.used bytes) (omega (arith, length-drop c.pieces.used bytes)) in
-    let took = subst (λ (l : List ℕ). TakesOf c.pieces.connection new.connection c.pieces.host new.host l c.in-Ok.taken) rest c.in-Ok.ensures.took in
+    let took = subst (λ (l : List ℕ). TakesOf (at_books c.pieces.connection c.pieces.host) (at_books new.connection new.host) l c.in-Ok.taken) rest c.in-Ok.ensures.took in
     record {
       within = omega (arith, took.within, length-drop c.pieces.used bytes, so.within);
       table = c.take_piece.ensures.table ∙ so.table;
@@ -60,7 +60,7 @@ returns-then-used-bytes-clause-took c =
     let new = c.take_piece.new in
     let rest : take (length bytes - c.pieces.used) (drop c.pieces.used bytes) ≡ drop c.pieces.used bytes =
     take_all (length bytes - c.pieces.used) (drop c.pieces.used bytes) (omega (arith, length-drop c.pieces.used bytes)) in
-    let took = subst (λ (l : List ℕ). TakesOf old new.connection c.pieces.host new.host l c.in-Ok.taken) rest c.in-Ok.ensures.took in
+    let took = subst (λ (l : List ℕ). TakesOf (at_books old c.pieces.host) (at_books new.connection new.host) l c.in-Ok.taken) rest c.in-Ok.ensures.took in
     let so_far = next_taken c.args.connection.now old new.connection c.args.host.now c.pieces.host new.host bytes c.pieces.used c.in-Ok.taken
     c.one_journal.ensures.more so.table so.header so.so_far took in
     let none = no_frame_after c.splits_once.ensures.some old.peer.table old.peer.header old.peer.held new.connection.peer.held c.pieces.host new.host

@@ -15,5 +15,5 @@ returns-in-Ok-clause-written c =
     c.truncate.ensures.items ∙ ap (take c.len-start.result) grows.2 ∙ take_at c.args.out.now.items grows.0 c.len-start.result (omega (arith, c.len-start.ensures, c.args.out.now.ok.0)) in
     let grown : c.append_short.new.out.items ≡ c.args.out.now.items ++ frame_of c.args.link.now.header garbage =
     c.in-Ok.ensures.framed ∙ ap (λ (l : List ℕ). l ++ frame_of c.header.result garbage) start ∙ ap (λ (h : Header). c.args.out.now.items ++ frame_of h garbage) c.header.ensures in
-    garbage_in_place c.args.link.now.table c.args.link.now.header c.args.host.now (message_in c.args.link.now.table c.args.body.now)
+    garbage_in_place c.args.link.now c.args.host.now (message_in c.args.link.now.table c.args.body.now)
     c.args.out.now.items c.answer.new.out.items c.append_short.new.out.items grows.0 grows.1 grows.2 differs grown

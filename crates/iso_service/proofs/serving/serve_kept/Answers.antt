@@ -1,6 +1,8 @@
 use Rattle.std.proofs.Common.{◌≡◌, ◌∙◌, ◌<◌, ℕ, List, arith, length, take, refl, sym, ap, subst}
 use Rattle.std.specs.Io.KnownBytes.{Consumes}
 use Rattle.iso_issuer.specs.Books.{Books}
+use Rattle.iso_host.specs.Serving.{standing}
+use Rattle.iso_host.specs.Links.{agreed}
 use Rattle.iso_host.specs.Entering.{StaysWithout}
 use Rattle.iso_host.specs.Peers.{Unfinished}
 use Rattle.std.specs.Prelude.{Err}
@@ -103,8 +105,7 @@ returns-in-Some-clause-kept g c = λ step kept.
 
 pub returns-in-Some-clause-leaves : goal.returns-in-Some-clause-leaves
 returns-in-Some-clause-leaves g c =
-    subst (λ (b : Books). Leaves c.args.link.now.table c.args.link.now.header (g.R.Inlet.remaining c.args.reader.now) (g.R.Inlet.remaining c.fill.new.reader)
-    (g.W.Outlet.contents c.args.writer.now) (g.W.Outlet.contents c.keep_and_answer.new.writer) c.args.host.now.host b (Err c.stopped_by.result)) (sym c.keep_and_answer.ensures.host)
+    subst (λ (b : Books). Leaves (agreed c.args.link.now.table c.args.link.now.header) (standing (g.R.Inlet.remaining c.args.reader.now) (g.W.Outlet.contents c.args.writer.now) c.args.host.now.host) (standing (g.R.Inlet.remaining c.fill.new.reader) (g.W.Outlet.contents c.keep_and_answer.new.writer) b) (Err c.stopped_by.result)) (sym c.keep_and_answer.ensures.host)
     (ends_stopped c.args.link.now.table c.args.link.now.header (g.R.Inlet.remaining c.args.reader.now) (g.W.Outlet.contents c.args.writer.now) c.args.host.now.host
     (g.R.Inlet.remaining c.loop.reader) (g.W.Outlet.contents c.loop.writer) c.loop.host.host c.loop.connection c.loop.invariant.going
     (g.R.Inlet.remaining c.fill.new.reader) (take c.in-Ok-fill.count c.deref.result.now) c.take_counted.new.connection c.take_counted.new.host.host

@@ -1,5 +1,5 @@
 use Rattle.std.proofs.Common.{refl}
-use Rattle.iso_lines.proofs.Bodies.{read_over}
+use Rattle.iso_lines.proofs.Reading.{read_over}
 use Rattle.iso_lines.proofs.peer.Peer.read.Goals as goal
 
 pub returns-in-Over-clause-came : goal.returns-in-Over-clause-came
