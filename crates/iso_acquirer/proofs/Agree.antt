@@ -1,7 +1,7 @@
 -- Both ends agree on each transaction.
 use Rattle.std.proofs.Common.{◌≡◌, ℕ, refl, subst}
 use Rattle.std.specs.Prelude.{Option, Some, None, option_map, option_and_then}
-use Rattle.iso_issuer.specs.Laws.{GrantedStands, DeclinedFalls, NoneIsNone, StandsNoMore, ReversedNeverStands}
+use Rattle.iso_issuer.specs.StandingLaws.{GrantedStands, DeclinedFalls, NoneIsNone, StandsNoMore, ReversedNeverStands}
 use Rattle.iso_acquirer.specs.declared.slot.Slot.{Slot}
 use Rattle.iso_acquirer.specs.declared.slot.Role.{Role}
 use Rattle.iso_acquirer.specs.declared.slot.Role.TheVariants.{Transaction, Reversal}

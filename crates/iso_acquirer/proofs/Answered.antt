@@ -9,7 +9,7 @@ use Rattle.iso_order.specs.Order.{Instruction}
 use Rattle.iso_issuer.specs.declared.journal.Entry.{Entry}
 use Rattle.iso_issuer.specs.Effect.{is_key}
 use Rattle.iso_issuer.specs.Journal.{entry_at, undone_key, is_reversed}
-use Rattle.iso_issuer.specs.Laws.{WhollyIsReversed}
+use Rattle.iso_issuer.specs.StandingLaws.{WhollyIsReversed}
 use Rattle.iso_acquirer.specs.declared.event.Given.{Given}
 use Rattle.iso_acquirer.specs.declared.slot.Slot.{Slot}
 use Rattle.iso_acquirer.specs.declared.slot.Role.{Role}

@@ -13,7 +13,7 @@ use Rattle.iso_issuer.specs.declared.journal.Entry.{Entry}
 use Rattle.iso_issuer.specs.Effect.{effect_of, effect_by, is_key}
 use Rattle.iso_issuer.specs.Journal.{entry_at, left_at, left_by, undone_key}
 use Rattle.iso_issuer.specs.Decision.{journal_of}
-use Rattle.iso_issuer.specs.Laws.{GrantedStands, DeclinedFalls, NoneReverses, NoneIsNone, AllReverseWholly, NeverStands, StandsNoMore, ReversedNeverStands}
+use Rattle.iso_issuer.specs.StandingLaws.{GrantedStands, DeclinedFalls, NoneReverses, NoneIsNone, AllReverseWholly, NeverStands, StandsNoMore, ReversedNeverStands}
 use Rattle.iso_acquirer.specs.declared.event.Given.{Given}
 use Rattle.iso_acquirer.specs.declared.slot.Slot.{Slot}
 use Rattle.iso_acquirer.specs.declared.slot.Role.{Role}

@@ -15,7 +15,7 @@ use Rattle.iso_acquirer.specs.declared.slot.Role.TheVariants.{Transaction, Rever
 use Rattle.iso_acquirer.specs.declared.slot.Stage.{Stage}
 use Rattle.iso_acquirer.specs.declared.slot.Stage.TheVariants.{Waiting, Reversing, Approved, Declined, Reversed}
 use Rattle.iso_acquirer.specs.declared.state.State.{State}
-use Rattle.iso_acquirer.specs.Acquirer.{slot_at, state_by, state_in, state_of, on_stage, slot_at_stage, slots_at_stage, reversal_for, stage_after, stage_after_undo, slots_after_answer, slots_after_answer_in, slots_after_answer_at, next_reversal, slots_with_reversal, timeout, timeout_at, timeout_in, timeout_by}
+use Rattle.iso_acquirer.specs.Acquirer.{slot_at, state_by, state_in, state_of, on_stage, slot_at_stage, slots_at_stage, reversal_for, stage_after, stage_after_undo, slots_after_answer, slots_after_answer_in, slots_after_answer_at, next_reversal, slots_with_reversal, timeout, timeout_of_slot, timeout_in_role, timeout_at_stage}
 use Rattle.iso_acquirer.specs.Room.{AreNumbered}
 use Rattle.iso_acquirer.specs.World.{World, IsMade, IsRan, IsStep, refusal_count}
 use Rattle.iso_acquirer.specs.Agreed.{IsSound}
@@ -103,7 +103,7 @@ module _ (slots : List Slot) (numbered : AreNumbered 1 slots) where
       never_true : false ≡ true → ⊥
       never_true h = cc
 
-  asked-stays : (s : Slot) (stage : Stage) → slot_at slots s.order.key.stan ≡ Some s → s.role ≡ Transaction stage → (r : Instruction × List Slot) → timeout_by slots s.order stage ≡ Ok r → StaysIn slots r.1
+  asked-stays : (s : Slot) (stage : Stage) → slot_at slots s.order.key.stan ≡ Some s → s.role ≡ Transaction stage → (r : Instruction × List Slot) → timeout_at_stage slots s.order stage ≡ Ok r → StaysIn slots r.1
   asked-stays s (Waiting n) here role r e = by_tests (n == 1) (nat_lt (length slots) 999999) e
     where
       by_tests : (b t : Bool) →
@@ -123,11 +123,11 @@ module _ (slots : List Slot) (numbered : AreNumbered 1 slots) where
   stays-asked : (stan : ℕ) (r : Instruction × List Slot) → timeout slots stan ≡ Ok r → StaysIn slots r.1
   stays-asked stan r e = by_slot (slot_at slots stan) refl e
     where
-      by_role : (s : Slot) (role : Role) → slot_at slots stan ≡ Some s → s.role ≡ role → timeout_in slots s.order role ≡ Ok r → StaysIn slots r.1
+      by_role : (s : Slot) (role : Role) → slot_at slots stan ≡ Some s → s.role ≡ role → timeout_in_role slots s.order role ≡ Ok r → StaysIn slots r.1
       by_role s (Transaction stage) here role h = asked-stays s stage (ap (slot_at slots) (found slots 1 stan s numbered here).0 ∙ here) role r h
       by_role s (Reversal k) here role h = absurd (err_not NoSuch r h)
 
-      by_slot : (f : Option Slot) → slot_at slots stan ≡ f → timeout_at slots f ≡ Ok r → StaysIn slots r.1
+      by_slot : (f : Option Slot) → slot_at slots stan ≡ f → timeout_of_slot slots f ≡ Ok r → StaysIn slots r.1
       by_slot None here h = absurd (err_not NoSuch r h)
       by_slot (Some s) here h = by_role s s.role here refl h
 

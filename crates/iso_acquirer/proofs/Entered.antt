@@ -9,7 +9,8 @@ use Rattle.iso_issuer.specs.declared.journal.Entry.{Entry}
 use Rattle.iso_issuer.specs.Journal.{entry_at, is_entered, HasDistinctKeys}
 use Rattle.iso_issuer.specs.Decision.{new_entry, answer_for}
 use Rattle.iso_issuer.specs.Books.{Books, journal, books_with}
-use Rattle.iso_issuer.specs.Laws.{JournalsGrow, KnownChangesNothing, NewComesLast, AnswersAreEntered, ReversedStays}
+use Rattle.iso_issuer.specs.Laws.{JournalsGrow, KnownChangesNothing, NewComesLast, AnswersAreEntered}
+use Rattle.iso_issuer.specs.StandingLaws.{ReversedStays}
 use Rattle.iso_acquirer.specs.declared.event.Given.{Given}
 use Rattle.iso_acquirer.specs.declared.slot.Slot.{Slot}
 use Rattle.iso_acquirer.specs.declared.slot.Role.{Role}

@@ -6,7 +6,8 @@ use Rattle.iso_order.specs.Pan.{AccountNumber}
 use Rattle.iso_order.specs.Order.{Instruction}
 use Rattle.iso_issuer.specs.declared.account.Account.{Account}
 use Rattle.iso_issuer.specs.Books.{journal}
-use Rattle.iso_issuer.specs.Laws.{JournalsGrow, KnownChangesNothing, NewComesLast, KeysStayDistinct, AnswersAreEntered, ReversedStays, WhollyIsReversed}
+use Rattle.iso_issuer.specs.Laws.{JournalsGrow, KnownChangesNothing, NewComesLast, KeysStayDistinct, AnswersAreEntered}
+use Rattle.iso_issuer.specs.StandingLaws.{ReversedStays, WhollyIsReversed}
 use Rattle.iso_acquirer.specs.declared.event.Event.{Event}
 use Rattle.iso_acquirer.specs.declared.event.Event.TheVariants.{Begin, Timeout, Deliver, Answer, Other}
 use Rattle.iso_acquirer.specs.declared.event.Given.{Given}

@@ -17,7 +17,8 @@ use Rattle.iso_issuer.specs.Journal.{entry_at, is_standing, weight, is_entered, 
 use Rattle.iso_issuer.specs.Balance.{share, total, ledger}
 use Rattle.iso_issuer.specs.Decision.{journal_of}
 use Rattle.iso_issuer.specs.Books.{journal}
-use Rattle.iso_issuer.specs.Laws.{EntriesAreOfOrders, EnteredHasEntry, GrantedWeighsAll, DeclinedFalls, FallenWeighsNothing, NoneIsNone, NeverStands, StandsNoMore, ReversedNeverStands}
+use Rattle.iso_issuer.specs.Laws.{EntriesAreOfOrders, EnteredHasEntry}
+use Rattle.iso_issuer.specs.StandingLaws.{GrantedWeighsAll, DeclinedFalls, FallenWeighsNothing, NoneIsNone, NeverStands, StandsNoMore, ReversedNeverStands}
 use Rattle.iso_acquirer.specs.declared.slot.Slot.{Slot}
 use Rattle.iso_acquirer.specs.declared.slot.Role.{Role}
 use Rattle.iso_acquirer.specs.declared.slot.Role.TheVariants.{Transaction, Reversal}

@@ -11,7 +11,7 @@ use Rattle.iso_acquirer.specs.declared.slot.Role.{Role}
 use Rattle.iso_acquirer.specs.declared.slot.Role.TheVariants.{Transaction, Reversal}
 use Rattle.iso_acquirer.specs.declared.slot.Stage.{Stage}
 use Rattle.iso_acquirer.specs.declared.slot.Stage.TheVariants.{Waiting, Reversing, Approved, Declined, Reversed}
-use Rattle.iso_acquirer.specs.Acquirer.{slot_at, undo_of, slots_at_stage, timeout, timeout_at, timeout_in, timeout_by, next_reversal, slots_with_reversal}
+use Rattle.iso_acquirer.specs.Acquirer.{slot_at, undo_of, slots_at_stage, timeout, timeout_of_slot, timeout_in_role, timeout_at_stage, next_reversal, slots_with_reversal}
 use Rattle.iso_acquirer.specs.Agreed.{IsAgreed}
 use Rattle.iso_acquirer.proofs.Keys.{some_is, none_is_not}
 use Rattle.iso_acquirer.proofs.Numbered.{found}
@@ -38,7 +38,7 @@ module _ (id : ℕ) (slots : List Slot) (sent : List Instruction) (given : List 
       (λ x stage there is h. tt) (λ x stage v there is undo. absurd (none_is_not v undo)))
       (order-changed (λ _. Waiting 2) s.order.key.stan slots s.order.key.stan ∙ ap (option_map (λ (x : Slot). x.order)) here)
 
-  asked-by : (s : Slot) (stage : Stage) → slot_at slots s.order.key.stan ≡ Some s → s.role ≡ Transaction stage → (r : Instruction × List Slot) → timeout_by slots s.order stage ≡ Ok r → IsSent r
+  asked-by : (s : Slot) (stage : Stage) → slot_at slots s.order.key.stan ≡ Some s → s.role ≡ Transaction stage → (r : Instruction × List Slot) → timeout_at_stage slots s.order stage ≡ Ok r → IsSent r
   asked-by s (Waiting n) here role r e = by_tests (n == 1) (nat_lt (length slots) 999999) e
     where
       by_tests : (b t : Bool) →
@@ -55,13 +55,13 @@ module _ (id : ℕ) (slots : List Slot) (sent : List Instruction) (given : List 
   asked-by s (Declined c) here role r e = absurd (err_not Closed r e)
   asked-by s (Reversed u) here role r e = absurd (err_not Closed r e)
 
-  asked-in : (stan : ℕ) (s : Slot) (role : Role) → slot_at slots stan ≡ Some s → s.role ≡ role → (r : Instruction × List Slot) → timeout_in slots s.order role ≡ Ok r → IsSent r
+  asked-in : (stan : ℕ) (s : Slot) (role : Role) → slot_at slots stan ≡ Some s → s.role ≡ role → (r : Instruction × List Slot) → timeout_in_role slots s.order role ≡ Ok r → IsSent r
   asked-in stan s (Transaction stage) here role r e = asked-by s stage (ap (slot_at slots) (found slots 1 stan s w.numbered here).0 ∙ here) role r e
   asked-in stan s (Reversal k) here role r e = absurd (err_not NoSuch r e)
 
   pub agreed-asked : (stan : ℕ) (r : Instruction × List Slot) → timeout slots stan ≡ Ok r → IsAgreed id r.1 (sent ++ r.0 ∷ []) given entries
   agreed-asked stan r e = by_slot (slot_at slots stan) refl e
     where
-      by_slot : (f : Option Slot) → slot_at slots stan ≡ f → timeout_at slots f ≡ Ok r → IsSent r
+      by_slot : (f : Option Slot) → slot_at slots stan ≡ f → timeout_of_slot slots f ≡ Ok r → IsSent r
       by_slot None here h = absurd (err_not NoSuch r h)
       by_slot (Some s) here h = asked-in stan s s.role here refl r h

@@ -14,7 +14,7 @@ use Rattle.iso_acquirer.specs.declared.slot.Role.{Role}
 use Rattle.iso_acquirer.specs.declared.slot.Role.TheVariants.{Transaction, Reversal}
 use Rattle.iso_acquirer.specs.declared.slot.Stage.{Stage}
 use Rattle.iso_acquirer.specs.declared.slot.Stage.TheVariants.{Waiting, Reversing, Approved, Declined, Reversed}
-use Rattle.iso_acquirer.specs.Acquirer.{Party, slot_at, order_at, slots_at_stage, stage_after, stage_after_undo, slots_after_answer, slots_after_answer_in, slots_after_answer_at, timeout, timeout_at, timeout_in, timeout_by, next_reversal, reversal_for, slots_with, slots_with_reversal, transaction_of, debit_of, IsFair}
+use Rattle.iso_acquirer.specs.Acquirer.{Party, slot_at, order_at, slots_at_stage, stage_after, stage_after_undo, slots_after_answer, slots_after_answer_in, slots_after_answer_at, timeout, timeout_of_slot, timeout_in_role, timeout_at_stage, next_reversal, reversal_for, slots_with, slots_with_reversal, transaction_of, debit_of, IsFair}
 use Rattle.iso_acquirer.proofs.Lists.{all-push}
 use Rattle.iso_acquirer.proofs.Numbered.{all-changed, all-found}
 use Rattle.iso_acquirer.proofs.Made.{debit-valid, reversal-fits}
@@ -68,7 +68,7 @@ module _ (slots : List Slot) (all : AreValid slots) (base : (n : ℕ) (s : Slot)
   below : nat_lt (length slots) 999999 ≡ true → length slots < 999999
   below h = grind (arith, nat_tests, h)
 
-  asked-by : (n : ℕ) (s : Slot) (stage : Stage) → slot_at slots n ≡ Some s → s.role ≡ Transaction stage → (r : Instruction × List Slot) → timeout_by slots s.order stage ≡ Ok r → AreValid r.1
+  asked-by : (n : ℕ) (s : Slot) (stage : Stage) → slot_at slots n ≡ Some s → s.role ≡ Transaction stage → (r : Instruction × List Slot) → timeout_at_stage slots s.order stage ≡ Ok r → AreValid r.1
   asked-by m s (Waiting n) here role r e = by_tests (n == 1) (nat_lt (length slots) 999999) refl e
     where
       by_tests : (b t : Bool) → nat_lt (length slots) 999999 ≡ t →
@@ -87,13 +87,13 @@ module _ (slots : List Slot) (all : AreValid slots) (base : (n : ℕ) (s : Slot)
   asked-by m s (Declined c) here role r e = absurd (err_not Closed r e)
   asked-by m s (Reversed u) here role r e = absurd (err_not Closed r e)
 
-  asked-in : (n : ℕ) (s : Slot) (role : Role) → slot_at slots n ≡ Some s → s.role ≡ role → (r : Instruction × List Slot) → timeout_in slots s.order role ≡ Ok r → AreValid r.1
+  asked-in : (n : ℕ) (s : Slot) (role : Role) → slot_at slots n ≡ Some s → s.role ≡ role → (r : Instruction × List Slot) → timeout_in_role slots s.order role ≡ Ok r → AreValid r.1
   asked-in n s (Transaction stage) here role r e = asked-by n s stage here role r e
   asked-in n s (Reversal k) here role r e = absurd (err_not NoSuch r e)
 
   pub valid-asked : (stan : ℕ) (r : Instruction × List Slot) → timeout slots stan ≡ Ok r → AreValid r.1
   valid-asked stan r e = by_slot (slot_at slots stan) refl e
     where
-      by_slot : (f : Option Slot) → slot_at slots stan ≡ f → timeout_at slots f ≡ Ok r → AreValid r.1
+      by_slot : (f : Option Slot) → slot_at slots stan ≡ f → timeout_of_slot slots f ≡ Ok r → AreValid r.1
       by_slot None here h = absurd (err_not NoSuch r h)
       by_slot (Some s) here h = asked-in stan s s.role here refl r h

@@ -1,6 +1,7 @@
 -- What an acquirer keeps, by trace number, and what its calls do to it.
 use Rattle.std.specs.Prelude.{◌≡◌, ◌≤◌, ℕ, true, List, [], ◌∷◌, ◌++◌, ◌==◌, ◌||◌, ◌+◌, length, nat_lt, find, map, Option, Some, None, option_map, option_and_then, Result, Ok, Err, if◌then◌else◌}
 use Rattle.std.specs.Result.{result_err}
+use Rattle.iso_order.specs.Codes.{approved, duplicate_transmission, system_malfunction}
 use Rattle.iso_order.specs.declared.key.TxKey.{TxKey}
 use Rattle.iso_order.specs.declared.act.Act.TheVariants.{Debit, Undo}
 use Rattle.iso_order.specs.Pan.{AccountNumber}
@@ -120,30 +121,32 @@ slots_with_reversal slots stan undo =
     slots_at_stage (λ _. stage.Reversing undo) stan slots ++ reversal_for stan undo ∷ []
 
 -- the order that is sent, and what is kept: the order again, after the second time its reversal, and then that again
-abbrev pub timeout_by : List Slot → Instruction → Stage → Result (Instruction × List Slot) AcqFault
-timeout_by slots o (stage.Waiting n) =
+abbrev pub timeout_at_stage : List Slot → Instruction → Stage
+    → Result (Instruction × List Slot) AcqFault
+timeout_at_stage slots o (stage.Waiting n) =
     if n == 1 then Ok (o, slots_at_stage (λ _. stage.Waiting 2) o.key.stan slots)
     else if nat_lt (length slots) 999999
     then Ok (next_reversal slots o, slots_with_reversal slots o.key.stan (next_reversal slots o))
     else Err NoMoreTrace
-timeout_by slots o (stage.Reversing u) = Ok (u, slots)
-timeout_by slots o stage.Approved = Err Closed
-timeout_by slots o (stage.Declined c) = Err Closed
-timeout_by slots o (stage.Reversed u) = Err Closed
+timeout_at_stage slots o (stage.Reversing u) = Ok (u, slots)
+timeout_at_stage slots o stage.Approved = Err Closed
+timeout_at_stage slots o (stage.Declined c) = Err Closed
+timeout_at_stage slots o (stage.Reversed u) = Err Closed
 
--- the same of a transaction; a reversal doesn't wait by itself
-abbrev pub timeout_in : List Slot → Instruction → Role → Result (Instruction × List Slot) AcqFault
-timeout_in slots o (Transaction stage) = timeout_by slots o stage
-timeout_in slots o (Reversal stan) = Err NoSuch
+-- the same by what the order is for: a transaction is at a stage; a reversal doesn't wait by itself
+abbrev pub timeout_in_role : List Slot → Instruction → Role
+    → Result (Instruction × List Slot) AcqFault
+timeout_in_role slots o (Transaction stage) = timeout_at_stage slots o stage
+timeout_in_role slots o (Reversal stan) = Err NoSuch
 
 -- the same of what is kept under a trace number, if anything is
-abbrev pub timeout_at : List Slot → Option Slot → Result (Instruction × List Slot) AcqFault
-timeout_at slots None = Err NoSuch
-timeout_at slots (Some s) = timeout_in slots s.order s.role
+abbrev pub timeout_of_slot : List Slot → Option Slot → Result (Instruction × List Slot) AcqFault
+timeout_of_slot slots None = Err NoSuch
+timeout_of_slot slots (Some s) = timeout_in_role slots s.order s.role
 
 -- what is sent and kept where no answer to that trace number came in time
 abbrev pub timeout : List Slot → ℕ → Result (Instruction × List Slot) AcqFault
-timeout slots stan = timeout_at slots (slot_at slots stan)
+timeout slots stan = timeout_of_slot slots (slot_at slots stan)
 
 -- why a timeout of that trace number is refused, where it is
 abbrev pub timeout_fault : List Slot → ℕ → Option AcqFault
@@ -151,10 +154,11 @@ timeout_fault slots stan = result_err (timeout slots stan)
 
 -- ---- answer
 
--- the stage after an answer to the transaction's own order: 0 grants it, 94 and 96 leave it open (element 39)
+-- the stage after an answer to the transaction's own order (element 39): a duplicate and a malfunction leave it open
 abbrev pub stage_after : ℕ → Stage → Stage
-stage_after code (stage.Waiting n) = if code == 0 then stage.Approved
-    else (if (code == 94) || (code == 96) then stage.Waiting n else stage.Declined code)
+stage_after code (stage.Waiting n) = if code == approved then stage.Approved
+    else (if (code == duplicate_transmission) || (code == system_malfunction) then stage.Waiting n
+    else stage.Declined code)
 stage_after code (stage.Reversing u) = stage.Reversing u
 stage_after code stage.Approved = stage.Approved
 stage_after code (stage.Declined c) = stage.Declined c

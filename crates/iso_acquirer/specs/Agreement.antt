@@ -10,7 +10,7 @@ use Rattle.iso_issuer.specs.declared.journal.Entry.{Entry}
 use Rattle.iso_issuer.specs.Journal.{entry_at, is_standing}
 use Rattle.iso_issuer.specs.Balance.{ledger, available}
 use Rattle.iso_issuer.specs.Books.{journal}
-use Rattle.iso_issuer.specs.Laws.{NeverStands}
+use Rattle.iso_issuer.specs.StandingLaws.{NeverStands}
 use Rattle.iso_acquirer.specs.declared.slot.Slot.{Slot}
 use Rattle.iso_acquirer.specs.declared.state.State.{State}
 use Rattle.iso_acquirer.specs.declared.state.State.TheVariants.{Waiting, Reversing, Approved, Declined, Reversed}

@@ -6,13 +6,14 @@ ghost use Rattle.iso_order.specs.Key.{is_valid_key};
 ghost use Rattle.iso_order.specs.declared.act.Act.TheVariants.{Debit};
 ghost use Rattle.iso_acquirer.specs.declared.fault.AcqFault.TheVariants.{NoMoreTrace, Memory};
 ghost use Rattle.iso_acquirer.specs.declared.slot.Role.TheVariants.{Transaction};
-ghost use Rattle.iso_acquirer.specs.Acquirer.{slot_at, state_by, state_of, on_stage, slots_at_stage, slots_with};
+ghost use Rattle.iso_acquirer.specs.Acquirer.{slot_at, state_of, on_stage, slots_at_stage, slots_with};
 ghost use Rattle.iso_acquirer.specs.Room.{AreNumbered, reversals_at, reversals_of, IsRequest};
-ghost use Rattle.iso_acquirer.specs.Acquirer.{debit_of, IsFair, next_reversal, slots_with_reversal, timeout, timeout_by, timeout_fault, slots_after_answer_in};
+ghost use Rattle.iso_acquirer.specs.Acquirer.{debit_of, IsFair, next_reversal, slots_with_reversal, timeout, timeout_at_stage, timeout_fault, slots_after_answer_in};
 ghost use Rattle.iso_acquirer.specs.Acquirer.{stage_after, stage_after_undo, slots_after_answer};
 
 use crate::fault::AcqFault;
 use crate::slot::{Role, Slot, Stage};
+use crate::stage::{reversals_at, reversals_of, stage_after, stage_after_undo, state_by};
 use crate::state::State;
 use iso_order::{Act, MOST_STAN, Money, Order, Pan, TxKey};
 use std::alloc::Global;
@@ -71,68 +72,6 @@ fn put_stage(slots: &mut [Slot], slot: &Slot, stage: Stage)
         order: slot.order,
         role: Role::Transaction(stage),
     };
-}
-
-fn state_by(stage: Stage) -> State
-    ensures { result ≡ state_by stage }
-{
-    match stage {
-        Stage::Waiting(count) => State::Waiting(count),
-        Stage::Reversing(_) => State::Reversing,
-        Stage::Approved => State::Approved,
-        Stage::Declined(code) => State::Declined(code),
-        Stage::Reversed(_) => State::Reversed,
-    }
-}
-
-/// How many reversals of a transaction at that stage may still be made: one or none.
-fn reversals_at(stage: &Stage) -> usize
-    ensures { result ≡ reversals_at stage.now }
-{
-    match stage {
-        Stage::Waiting(_) => 1,
-        Stage::Reversing(_) | Stage::Approved | Stage::Declined(_) | Stage::Reversed(_) => 0,
-    }
-}
-
-/// How many reversals of an order may still be made: a reversal isn't reversed.
-fn reversals_of(role: &Role) -> usize
-    ensures { result ≡ reversals_of role.now }
-{
-    match role {
-        Role::Transaction(stage) => reversals_at(stage),
-        Role::Reversal(_) => 0,
-    }
-}
-
-/// The stage after an answer to the transaction's own order.
-fn stage_after(stage: Stage, code: u8) -> Stage
-    ensures { result ≡ stage_after code stage }
-{
-    match stage {
-        Stage::Waiting(count) => match code {
-            0 => Stage::Approved,
-            94 | 96 => Stage::Waiting(count),
-            _ => Stage::Declined(code),
-        },
-        Stage::Reversing(_) | Stage::Approved | Stage::Declined(_) | Stage::Reversed(_) => stage,
-    }
-}
-
-/// The stage after an answer to the transaction's reversal.
-fn stage_after_undo(stage: Stage, code: u8) -> Stage
-    ensures { result ≡ stage_after_undo code stage }
-{
-    match stage {
-        Stage::Reversing(undo) => {
-            if code == 0 {
-                Stage::Reversed(undo)
-            } else {
-                stage
-            }
-        }
-        Stage::Waiting(_) | Stage::Approved | Stage::Declined(_) | Stage::Reversed(_) => stage,
-    }
 }
 
 /// A debit, under a key of class 2.
@@ -322,7 +261,7 @@ impl Acquirer {
         };
         let role = slot.role;
         match role {
-            Role::Transaction(stage) => self.timeout_by(&slot, stage),
+            Role::Transaction(stage) => self.timeout_at_stage(&slot, stage),
             Role::Reversal(_) => Err(AcqFault::NoSuch),
         }
     }
@@ -346,13 +285,15 @@ impl Acquirer {
         }
     }
 
-    fn timeout_by(&mut self, slot: &Slot, stage: Stage) -> Result<Order, AcqFault>
+    /// The same of a transaction that is at this stage.
+    fn timeout_at_stage(&mut self, slot: &Slot, stage: Stage) -> Result<Order, AcqFault>
         requires there { slot_at self.old.slots slot.now.order.key.stan ≡ Some slot.now }
         requires transaction { slot.now.role ≡ Transaction stage }
-        ensures ok { IfOk result
-            (λ order. timeout_by self.old.slots slot.now.order stage ≡ Ok (order, self.new.slots)) }
+        ensures ok { IfOk result (λ order.
+            timeout_at_stage self.old.slots slot.now.order stage ≡ Ok (order, self.new.slots)) }
         ensures own { self.new.id ≡ self.old.id }
-        ensures fault { IfErr result (λ e. timeout_by self.old.slots slot.now.order stage ≡ Err e) }
+        ensures fault { IfErr result
+            (λ e. timeout_at_stage self.old.slots slot.now.order stage ≡ Err e) }
         ensures unchanged { OnErr result (self.new ≡ self.old) }
     {
         match stage {

@@ -92,19 +92,3 @@ impl From<AllocError> for StepFault {
         StepFault::Memory
     }
 }
-
-impl From<AcqFault> for StepFault {
-    ghost from_gives = { λ a e. e ≡ step.Acquirer a };
-
-    fn from(fault: AcqFault) -> StepFault {
-        StepFault::Acquirer(fault)
-    }
-}
-
-impl From<Refused> for StepFault {
-    ghost from_gives = { λ r e. e ≡ step.Issuer r };
-
-    fn from(refused: Refused) -> StepFault {
-        StepFault::Issuer(refused)
-    }
-}

@@ -6,6 +6,7 @@ mod event;
 mod fault;
 pub mod laws;
 mod slot;
+mod stage;
 mod state;
 mod world;
 

@@ -132,7 +132,7 @@ module _ {D : Type 0} (seen : D → List ℕ) (may_leave : D → List ℕ → Ty
     long = count_is slots count (seen d) is.file
 
     pub none_waits : notes_of (drop count (records_of (seen d))) ≡ []
-    none_waits = none_pending seen may_leave is_usable (record { disk = d; slots = slots; count = count; synced = count }) long
+    none_waits = none_pending seen (record { disk = d; slots = slots; count = count; synced = count }) long
 
     pub all_synced : diary_notes (records_of (seen d)) ≡ diary_notes (take count (records_of (seen d)))
     all_synced = sym (ap diary_notes (take_all count (records_of (seen d)) (omega (arith, long))))

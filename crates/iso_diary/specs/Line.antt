@@ -110,7 +110,8 @@ note_by c text =
 -- only the very bytes that are written
 abbrev pub line_if_same : List ℕ → Option Note → Option ℕ → Option Line
 line_if_same text (Some n) (Some place) =
-    let l : Line = record { place = place; note = n } in if bytes_eq (line_bytes l) text then Some l else None
+    let l : Line = record { place = place; note = n } in
+    if bytes_eq (line_bytes l) text then Some l else None
 line_if_same _ _ _ = None
 
 -- the note and the place that 128 bytes are

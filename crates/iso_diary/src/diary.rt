@@ -134,5 +134,5 @@ impl<D: Disk + Drop> NoteLog for DiaryLog<D> {
         }
     }
 
-    ghost leaves_front = { λ l is notes left. ready_leaves D.seen D.may_leave D.is_usable l.log is notes left };
+    ghost leaves_front = { λ l is notes left. ready_leaves l.log is notes left };
 }

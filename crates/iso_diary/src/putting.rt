@@ -14,7 +14,7 @@ const MOST_BLANKS: usize = 89;
 const ORDER: usize = 99;
 
 /// Ten digits of a number.
-const TEN_DIGITS: u64 = 10_000_000_000;
+pub(crate) const TEN_DIGITS: u64 = 10_000_000_000;
 
 /// Puts a part there: what is in front of it stays.
 pub(crate) fn put(bytes: &mut [u8; RECORD], at: usize, part: &[u8])

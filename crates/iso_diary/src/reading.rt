@@ -6,7 +6,7 @@ ghost use Rattle.iso_diary.specs.Line.{below, long_at, long_by, no_answer, answe
 
 use crate::laws::{lines_come_back, nothing_else};
 use crate::line::Line;
-use crate::putting::{put, put_order_of};
+use crate::putting::{TEN_DIGITS, put, put_order_of};
 use crate::writing::line_bytes;
 use iso_log::RECORD;
 use iso_order::TxKey;
@@ -19,9 +19,6 @@ const NO_ANSWER: &[u8; 29] = b"00000000                    \n";
 
 /// What a number of ten digits may be at most, in front of ten more.
 const MOST_FRONT: u64 = 1844674407;
-
-/// Ten digits of a number.
-const TEN_DIGITS: u64 = 10_000_000_000;
 
 /// The number in so many digits from a place on.
 fn number_at(text: &[u8; RECORD], at: usize, len: usize) -> Option<u64>

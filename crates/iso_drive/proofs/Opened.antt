@@ -11,7 +11,7 @@ use Rattle.iso_acquirer.specs.declared.slot.Role.TheVariants.{Transaction, Rever
 use Rattle.iso_acquirer.specs.declared.slot.Stage.{Stage}
 use Rattle.iso_acquirer.specs.declared.slot.Stage.TheVariants as phase
 use Rattle.iso_acquirer.specs.declared.state.State.{State}
-use Rattle.iso_acquirer.specs.Acquirer.{slot_at, state_of, state_in, state_by, on_stage, slot_at_stage, slots_at_stage, slots_with, transaction_of, timeout, timeout_at, timeout_in, timeout_by, next_reversal, slots_with_reversal, reversal_for, stage_after, stage_after_undo, slots_after_answer, slots_after_answer_at, slots_after_answer_in}
+use Rattle.iso_acquirer.specs.Acquirer.{slot_at, state_of, state_in, state_by, on_stage, slot_at_stage, slots_at_stage, slots_with, transaction_of, timeout, timeout_of_slot, timeout_in_role, timeout_at_stage, next_reversal, slots_with_reversal, reversal_for, stage_after, stage_after_undo, slots_after_answer, slots_after_answer_at, slots_after_answer_in}
 use Rattle.iso_acquirer.specs.Agreement.{is_closed}
 use Rattle.iso_restarts.specs.Diary.{slots_asked}
 use Rattle.iso_drive.specs.Open.{is_open, is_open_at}
@@ -86,21 +86,21 @@ pub open-asked : (slots : List Slot) (m n : ℕ) → AreInRow 1 slots → is_ope
 open-asked slots m n row = at (slot_at slots m) refl
   where
     waits : (s : Slot) (k : ℕ) → slot_at slots s.order.key.stan ≡ Some s → s.role ≡ Transaction (phase.Waiting k) → (a b : Bool) → (k == 1) ≡ a → nat_lt (length slots) 999999 ≡ b →
-        is_open_at (slots_asked slots (timeout_by slots s.order (phase.Waiting k))) n ≡ is_open_at slots n
+        is_open_at (slots_asked slots (timeout_at_stage slots s.order (phase.Waiting k))) n ≡ is_open_at slots n
     waits s k there is true b e f = rw e (open-step (λ _. phase.Waiting 2) s.order.key.stan slots s (phase.Waiting k) n there is refl)
     waits s k there is false true e f = rw (e, f)
         (open-reversal (slots_at_stage (λ _. phase.Reversing (next_reversal slots s.order)) s.order.key.stan slots) (reversal_for s.order.key.stan (next_reversal slots s.order)) s.order.key.stan n refl
         ∙ open-step (λ _. phase.Reversing (next_reversal slots s.order)) s.order.key.stan slots s (phase.Waiting k) n there is refl)
     waits s k there is false false e f = rw (e, f) refl
 
-    by_stage : (s : Slot) (stage : Stage) → slot_at slots s.order.key.stan ≡ Some s → s.role ≡ Transaction stage → is_open_at (slots_asked slots (timeout_by slots s.order stage)) n ≡ is_open_at slots n
+    by_stage : (s : Slot) (stage : Stage) → slot_at slots s.order.key.stan ≡ Some s → s.role ≡ Transaction stage → is_open_at (slots_asked slots (timeout_at_stage slots s.order stage)) n ≡ is_open_at slots n
     by_stage s (phase.Waiting k) there is = waits s k there is (k == 1) (nat_lt (length slots) 999999) refl refl
     by_stage s (phase.Reversing u) there is = refl
     by_stage s phase.Approved there is = refl
     by_stage s (phase.Declined c) there is = refl
     by_stage s (phase.Reversed u) there is = refl
 
-    by_role : (s : Slot) (role : Part) → slot_at slots m ≡ Some s → s.role ≡ role → is_open_at (slots_asked slots (timeout_in slots s.order role)) n ≡ is_open_at slots n
+    by_role : (s : Slot) (role : Part) → slot_at slots m ≡ Some s → s.role ≡ role → is_open_at (slots_asked slots (timeout_in_role slots s.order role)) n ≡ is_open_at slots n
     by_role s (Transaction stage) there is = by_stage s stage (ap (slot_at slots) (found slots 1 m s row there).0 ∙ there) is
     by_role s (Reversal k) there is = refl
 

@@ -16,7 +16,7 @@ use Rattle.iso_acquirer.specs.declared.slot.Stage.{Stage}
 use Rattle.iso_acquirer.specs.declared.slot.Stage.TheVariants as phase
 use Rattle.iso_acquirer.specs.declared.state.State.{State}
 use Rattle.iso_acquirer.specs.declared.state.State.TheVariants.{Waiting}
-use Rattle.iso_acquirer.specs.Acquirer.{slot_at, state_by, on_stage, slot_at_stage, slots_at_stage, timeout, timeout_at, timeout_in, timeout_by, next_reversal, slots_with_reversal, reversal_for, transaction_of}
+use Rattle.iso_acquirer.specs.Acquirer.{slot_at, state_by, on_stage, slot_at_stage, slots_at_stage, timeout, timeout_of_slot, timeout_in_role, timeout_at_stage, next_reversal, slots_with_reversal, reversal_for, transaction_of}
 use Rattle.iso_restarts.specs.Diary.{slots_asked}
 use Rattle.iso_drive.specs.declared.made.Made.{Made}
 use Rattle.iso_drive.specs.declared.made.Role.TheVariants.{Payment}
@@ -73,14 +73,14 @@ tabled-push made slots s t few next = record {
 
 -- ---- what a time-out makes of the acquirer's
 
-pub asked-at : (slots : List Slot) (stan : ℕ) (f : Option Slot) → slot_at slots stan ≡ f → slots_asked slots (timeout slots stan) ≡ slots_asked slots (timeout_at slots f)
-asked-at slots stan f h = ap (λ (g : Option Slot). slots_asked slots (timeout_at slots g)) h
+pub asked-at : (slots : List Slot) (stan : ℕ) (f : Option Slot) → slot_at slots stan ≡ f → slots_asked slots (timeout slots stan) ≡ slots_asked slots (timeout_of_slot slots f)
+asked-at slots stan f h = ap (λ (g : Option Slot). slots_asked slots (timeout_of_slot slots g)) h
 
-pub asked-role : (slots : List Slot) (stan : ℕ) (s : Slot) (role : Part) → slot_at slots stan ≡ Some s → s.role ≡ role → slots_asked slots (timeout slots stan) ≡ slots_asked slots (timeout_in slots s.order role)
-asked-role slots stan s role there is = asked-at slots stan (Some s) there ∙ ap (λ (r : Part). slots_asked slots (timeout_in slots s.order r)) is
+pub asked-role : (slots : List Slot) (stan : ℕ) (s : Slot) (role : Part) → slot_at slots stan ≡ Some s → s.role ≡ role → slots_asked slots (timeout slots stan) ≡ slots_asked slots (timeout_in_role slots s.order role)
+asked-role slots stan s role there is = asked-at slots stan (Some s) there ∙ ap (λ (r : Part). slots_asked slots (timeout_in_role slots s.order r)) is
 
 -- where it doesn't wait for its own answer, nothing changes
-pub asked-stays : (slots : List Slot) (o : Instruction) (stage : Stage) → is_waiting (state_by stage) ≡ false → slots_asked slots (timeout_by slots o stage) ≡ slots
+pub asked-stays : (slots : List Slot) (o : Instruction) (stage : Stage) → is_waiting (state_by stage) ≡ false → slots_asked slots (timeout_at_stage slots o stage) ≡ slots
 asked-stays slots o (phase.Waiting n) h = cc
 asked-stays slots o (phase.Reversing u) h = refl
 asked-stays slots o phase.Approved h = refl
@@ -94,22 +94,22 @@ stage-waits phase.Approved n h = cc
 stage-waits (phase.Declined c) n h = cc
 stage-waits (phase.Reversed u) n h = cc
 
-pub asked-again : (slots : List Slot) (o : Instruction) (n : ℕ) → n ≡ 1 → slots_asked slots (timeout_by slots o (phase.Waiting n)) ≡ slots_at_stage (λ _. phase.Waiting 2) o.key.stan slots
+pub asked-again : (slots : List Slot) (o : Instruction) (n : ℕ) → n ≡ 1 → slots_asked slots (timeout_at_stage slots o (phase.Waiting n)) ≡ slots_at_stage (λ _. phase.Waiting 2) o.key.stan slots
 asked-again slots o n is = rw (number_self n 1 is) refl
 
 pub asked-reversal : (slots : List Slot) (o : Instruction) (n : ℕ) → n ≢ 1 → nat_lt (length slots) 999999 ≡ true →
-    slots_asked slots (timeout_by slots o (phase.Waiting n)) ≡ slots_with_reversal slots o.key.stan (next_reversal slots o)
+    slots_asked slots (timeout_at_stage slots o (phase.Waiting n)) ≡ slots_with_reversal slots o.key.stan (next_reversal slots o)
 asked-reversal slots o n other left = rw (other_number n 1 other, left) refl
 
-pub asked-no-more : (slots : List Slot) (o : Instruction) (n : ℕ) → n ≢ 1 → nat_lt (length slots) 999999 ≡ false → slots_asked slots (timeout_by slots o (phase.Waiting n)) ≡ slots
+pub asked-no-more : (slots : List Slot) (o : Instruction) (n : ℕ) → n ≢ 1 → nat_lt (length slots) 999999 ≡ false → slots_asked slots (timeout_at_stage slots o (phase.Waiting n)) ≡ slots
 asked-no-more slots o n other left = rw (other_number n 1 other, left) refl
 
 -- ---- a time-out, and what the driver makes of it
 
 pub asked-once : (slots : List Slot) (s : Slot) (stage : Stage) (n : ℕ) → state_by stage ≡ Waiting n → n ≡ 1 →
-    slots_at_stage (λ _. phase.Waiting 2) s.order.key.stan slots ≡ slots_asked slots (timeout_by slots s.order stage)
+    slots_at_stage (λ _. phase.Waiting 2) s.order.key.stan slots ≡ slots_asked slots (timeout_at_stage slots s.order stage)
 asked-once slots s stage n waits is =
-    sym (ap (λ (p : Stage). slots_asked slots (timeout_by slots s.order p)) (stage-waits stage n waits) ∙ asked-again slots s.order n is)
+    sym (ap (λ (p : Stage). slots_asked slots (timeout_at_stage slots s.order p)) (stage-waits stage n waits) ∙ asked-again slots s.order n is)
 
 payment-role : (role : Part) (state : State) → role_of role ≡ Payment state → (stage : Stage) × (role ≡ Transaction stage) × (state_by stage ≡ state)
 payment-role (Transaction stage) state h = (stage, refl, cc)
@@ -120,7 +120,7 @@ made-found None m h = cc
 made-found (Some s) m h = (s, refl, sym (some_is m (made_of s) h))
 
 pub timed-out : (old new : List Made) (slots : List Slot) (stan : ℕ) (m : Made) (state : State) → IsTabled old slots → Some m ≡ option_map made_of (slot_at slots stan) → m.role ≡ Payment state →
-    ((s : Slot) (stage : Stage) → slot_at slots m.key.stan ≡ Some s → s.role ≡ Transaction stage → made_of s ≡ m → state_by stage ≡ state → IsTabled new (slots_asked slots (timeout_by slots s.order stage))) →
+    ((s : Slot) (stage : Stage) → slot_at slots m.key.stan ≡ Some s → s.role ≡ Transaction stage → made_of s ≡ m → state_by stage ≡ state → IsTabled new (slots_asked slots (timeout_at_stage slots s.order stage))) →
     IsTabled new (slots_asked slots (timeout slots stan))
 timed-out old new slots stan m state t there role by =
     let one = made-found (slot_at slots stan) m there in

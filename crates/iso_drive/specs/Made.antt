@@ -1,6 +1,7 @@
 -- The orders of an acquirer, as a driver has them by trace number.
 -- Inner: bodies and proofs cite it, and no public clause does but by `IsDriving`.
 use Rattle.std.specs.Prelude.{◌≡◌, ◌≤◌, ◌+◌, ◌==◌, ◌||◌, ℕ, List, [], ◌∷◌, length, map, Option, Some, None, if◌then◌else◌}
+use Rattle.iso_order.specs.Codes.{approved, duplicate_transmission, system_malfunction}
 use Rattle.iso_acquirer.specs.declared.slot.Slot.{Slot}
 use Rattle.iso_acquirer.specs.declared.slot.Role.{Role as Part}
 use Rattle.iso_acquirer.specs.declared.slot.Role.TheVariants as part
@@ -47,8 +48,9 @@ pub record IsTabled (made : List Made) (slots : List Slot) : Type 0 where
 -- the state in which an answer closes a transaction, if it does: an answer to its own order, and one to its reversal
 abbrev pub own_end : State → ℕ → Option State
 own_end (Waiting n) code =
-    if code == 0 then Some Approved
-    else (if (code == 94) || (code == 96) then None else Some (Declined code))
+    if code == approved then Some Approved
+    else (if (code == duplicate_transmission) || (code == system_malfunction) then None
+    else Some (Declined code))
 own_end Reversing code = None
 own_end Approved code = None
 own_end (Declined c) code = None

@@ -17,6 +17,7 @@ ghost use Rattle.iso_drive.specs.Due.{due_by};
 ghost use Rattle.iso_drive.specs.Entries.{entry_of};
 ghost use Rattle.iso_drive.specs.Open.{AreAllClosed};
 
+use crate::asking::ask;
 use crate::board::{Board, begin, board_after, make_room, settle};
 use crate::books::approved_total;
 use crate::counts::{Counts, count, declined_with};
@@ -42,27 +43,6 @@ fn is_empty(waiting: &VecDeque<Due>) -> bool
     ensures { IsTrue result ↔ (waiting.now.items ≡ []) }
 {
     waiting.is_empty()
-}
-
-/// No answer came in time to a transaction. Where no trace number is left for its reversal, it goes on to wait.
-fn ask<L: NoteLog>(acquirer: &mut DurableAcquirer<L>, stan: u32) -> Result<(), Fault>
-    ensures consistent { OnOk result (IsConsistent L.is_ready L.synced L.pending acquirer.old
-        → IsConsistent L.is_ready L.synced L.pending acquirer.new) }
-    ensures times_out { OnOk result (IsConsistent L.is_ready L.synced L.pending acquirer.old
-        → diary_of L.synced L.pending acquirer.new
-        ≡ times_out (diary_of L.synced L.pending acquirer.old) stan) }
-    ensures crash { IsConsistent L.is_ready L.synced L.pending acquirer.old
-        → (c : List Note) → L.may_leave acquirer.new.log c
-        → MayLeave (times_out (diary_of L.synced L.pending acquirer.old) stan) c }
-    ensures unchanged { IfErr result (λ e. e ≢ Fault.Log
-        → Same L.is_ready L.synced L.pending acquirer.old acquirer.new) }
-    ensures fault { IfErr result (λ e. (e ≡ Fault.Memory) ⊎ (e ≡ Fault.Log)) }
-{
-    match acquirer.timed_out(stan) {
-        Ok(()) | Err(Fault::Refused(_)) => Ok(()),
-        Err(Fault::Log) => Err(Fault::Log),
-        Err(Fault::Memory | Fault::Unkept | Fault::Damaged) => Err(Fault::Memory),
-    }
 }
 
 /// An acquirer over the log of its notes, and when each of its open transactions is due. Moments are in milliseconds, of

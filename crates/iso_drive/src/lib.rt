@@ -11,6 +11,7 @@
 //! - `laws`: a driver's calls are events of its acquirer, so both ends go on to agree.
 #![tactic(auto)]
 
+mod asking;
 mod board;
 mod books;
 mod counts;

@@ -4,13 +4,14 @@ ghost use Rattle.iso_order.specs.declared.key.TxKey.{TxKey};
 ghost use Rattle.iso_acquirer.specs.declared.slot.Slot.{Slot};
 ghost use Rattle.iso_acquirer.specs.declared.slot.Stage.{Stage};
 ghost use Rattle.iso_acquirer.specs.declared.slot.Role.TheVariants.{Transaction};
-ghost use Rattle.iso_acquirer.specs.Acquirer.{slot_at, state_by, slots_at_stage, timeout, timeout_by, slots_after_answer, reversal_for, next_reversal, slots_with_reversal};
+ghost use Rattle.iso_acquirer.specs.Acquirer.{slot_at, state_by, slots_at_stage, timeout, timeout_at_stage, slots_after_answer, reversal_for, next_reversal, slots_with_reversal};
 ghost use Rattle.iso_restarts.specs.Diary.{slots_asked};
 ghost use Rattle.iso_drive.specs.Answered.{Closes, ComesTo};
 ghost use Rattle.iso_drive.specs.Made.{made_of, IsTabled, own_end, undo_end_in, undo_end_at, told_by};
 
 use crate::heard::Heard;
 use iso_acquirer::State;
+use iso_order::codes::{APPROVED, DUPLICATE_TRANSMISSION, SYSTEM_MALFUNCTION};
 use iso_order::{MOST_STAN, Money, TxKey};
 
 /// What an order is.
@@ -109,7 +110,7 @@ fn time_out_by(made: &mut Vec<Made>, of: &Made, state: State)
     ensures { (slots : List Slot) (s : Slot) (stage : Stage) → IsTabled made.old.items slots
         → slot_at slots of.now.key.stan ≡ Some s → s.role ≡ Transaction stage → made_of s ≡ of.now
         → state_by stage ≡ state
-        → IsTabled made.new.items (slots_asked slots (timeout_by slots s.order stage)) }
+        → IsTabled made.new.items (slots_asked slots (timeout_at_stage slots s.order stage)) }
 {
     let State::Waiting(count) = state else {
         return;
@@ -145,8 +146,8 @@ fn own_end(state: State, code: u8) -> Option<State>
 {
     match state {
         State::Waiting(_) => match code {
-            0 => Some(State::Approved),
-            94 | 96 => None,
+            APPROVED => Some(State::Approved),
+            DUPLICATE_TRANSMISSION | SYSTEM_MALFUNCTION => None,
             _ => Some(State::Declined(code)),
         },
         State::Reversing | State::Approved | State::Declined(_) | State::Reversed => None,
@@ -159,7 +160,7 @@ fn undo_end(role: Role, code: u8) -> Option<State>
 {
     match role {
         Role::Payment(State::Reversing) => {
-            if code == 0 {
+            if code == APPROVED {
                 Some(State::Reversed)
             } else {
                 None

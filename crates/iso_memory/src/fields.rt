@@ -1,9 +1,10 @@
 //! The calls on fields and bitmaps.
 
 use crate::ended::Ended;
+use iso_parts::raw::{decode_judged, decode_value};
 use iso_parts::{
     Bitmap, BitmapCoding, CharClass, Coding, Digits, FieldFault, FieldSpec, Judged, Length, Pad,
-    Step, decode_field, decode_judged, decode_value, encode_field, judge_field,
+    Step, decode_field, encode_field, judge_field,
 };
 use std::alloc::Global;
 

@@ -1,5 +1,6 @@
 -- What an answer comes to.
 use Rattle.std.specs.Prelude.{◌≡◌, ◌≢◌, ◌==◌, ◌||◌, ℕ, Bool, true, false, List, Option, Some, None, if◌then◌else◌}
+use Rattle.iso_order.specs.Codes.{duplicate_transmission, system_malfunction}
 use Rattle.iso_order.specs.declared.key.TxKey.{TxKey}
 use Rattle.iso_order.specs.Key.{same_key}
 use Rattle.iso_mix.specs.declared.asked.Asked.{Asked}
@@ -8,7 +9,7 @@ use Rattle.iso_mix.specs.declared.hearing.Hearing.TheVariants.{First, Known, Dif
 
 -- nothing was done: the same key was used for another order, or the host failed
 abbrev pub is_no_answer : ℕ → Bool
-is_no_answer code = code == 94 || code == 96
+is_no_answer code = code == duplicate_transmission || code == system_malfunction
 
 -- an answer of that code, where the first one had that code
 abbrev pub hearing_by : Option ℕ → ℕ → Hearing

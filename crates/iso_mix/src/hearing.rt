@@ -4,6 +4,7 @@ ghost use Rattle.iso_mix.specs.Hearing.{hearing_of, hearing_by, is_no_answer};
 
 use crate::asked::Asked;
 use iso_order::TxKey;
+use iso_order::codes::{DUPLICATE_TRANSMISSION, SYSTEM_MALFUNCTION};
 
 /// What an answer came to.
 #[derive(Clone, Copy, Debug, PartialEq, Eq)]
@@ -22,7 +23,7 @@ pub enum Hearing {
 fn is_no_answer(code: u8) -> bool
     ensures { result ≡ is_no_answer code }
 {
-    matches!(code, 94 | 96)
+    matches!(code, DUPLICATE_TRANSMISSION | SYSTEM_MALFUNCTION)
 }
 
 /// What an answer of a code comes to, where the first one had that code.

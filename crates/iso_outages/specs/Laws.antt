@@ -1,6 +1,7 @@
 -- What holds of both ends over a host that crashes.
 use Rattle.std.specs.Prelude.{◌≡◌, ◌⊎◌, ℕ, List, [], ◌∷◌, ◌++◌, slice_get, Some}
 use Rattle.std.specs.List.{AllByRecursion}
+use Rattle.iso_order.specs.Codes.{system_malfunction}
 use Rattle.iso_order.specs.Order.{Instruction}
 use Rattle.iso_order.specs.Outcome.{Outcome}
 use Rattle.iso_issuer.specs.declared.account.Account.{Account}
@@ -31,9 +32,10 @@ ends_with w orders given = record {
   issuer = record { accounts = w.host.accounts; limit = w.host.limit; orders = orders };
 }
 
--- the answer is among these; or its code is 96, which leaves the acquirer as it is
+-- the answer is among these; or it is a system malfunction, which leaves the acquirer as it is
 abbrev pub IsAmong : List Given → Given → Type 0
-IsAmong all g = ((place : ℕ) × (slice_get all place ≡ Some g)) ⊎ (g.answer.code ≡ 96)
+IsAmong all g = ((place : ℕ) × (slice_get all place ≡ Some g))
+    ⊎ (g.answer.code ≡ system_malfunction)
 
 -- Events without a crash, none of them refused, lead to the same acquirer, which sent the same, and
 -- to a journal of the orders on the disk. Each answer that was given is given there. So an order

@@ -4,7 +4,7 @@ use Rattle.std.specs.Option.{unwrap_or}
 use Rattle.iso_plan.specs.declared.sendings.Sending.{Sending}
 
 -- what is known of the orders by trace number, the first so many of which are of earlier runs
-pub record Known : Type 0 where
+pub record KnownOrders : Type 0 where
   pub by_trace : List Sending
   pub earlier : ℕ
 
@@ -40,7 +40,7 @@ closed_by answer by_trace n =
     else sending_at by_trace n
 
 -- from the first sending to a moment, of an order that was sent once, in this run
-abbrev pub latency_of : Known → ℕ → ℕ → Option ℕ
+abbrev pub latency_of : KnownOrders → ℕ → ℕ → Option ℕ
 latency_of k stan now =
     if (sending_at k.by_trace stan).times == 1 && nat_lt k.earlier stan
     then Some (now - (sending_at k.by_trace stan).first)

@@ -39,9 +39,9 @@ pub struct Sendings {
 }
 
 impl Model for Sendings {
-    ghost use Rattle.iso_plan.specs.Sendings.{Known};
+    ghost use Rattle.iso_plan.specs.Sendings.{KnownOrders};
 
-    ghost Value = { Known };
+    ghost Value = { KnownOrders };
 
     ghost view = { λ s. record { by_trace = s.by_trace.items; earlier = s.earlier } };
 }

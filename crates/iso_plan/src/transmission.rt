@@ -26,7 +26,7 @@ fn part(value: i8) -> u64
 }
 
 /// A date and a time as ten digits: month, day, hour, minute and second.
-fn digits_of(at: DateTime) -> u64
+fn transmission_digits(at: DateTime) -> u64
     ensures { result ≡ stamp_of at }
 {
     let date = part(at.month()) * 100 + part(at.day());
@@ -56,7 +56,7 @@ pub fn stamp(since_1970: u64) -> Option<u64>
     ensures fits { IfSome result (λ sent. sent ≤ 9999999999) }
 {
     let at = date_and_time(since_1970)?;
-    let digits = digits_of(at);
+    let digits = transmission_digits(at);
     if digits > MOST {
         return None;
     }

@@ -9,6 +9,7 @@ use Rattle.iso_issuer.specs.Laws.{books_after}
 use Rattle.iso_host.specs.Asking.{asked_of, message_in, orders_in}
 use Rattle.iso_host.specs.Entering.{BodiesGoOn, books_after_bodies}
 use Rattle.iso_host.specs.Handling.{entered_by}
+use Rattle.iso_host.specs.Links.{Agreed, agreed}
 use Rattle.iso_play.specs.Played.{AreAnswered, AreAnsweredFrom, IsAnswered}
 use Rattle.iso_play.specs.declared.delivering.Answered.{Answered}
 
@@ -34,16 +35,17 @@ next_items f xs i x lt is =
     ap (map f) (take_more xs i x lt ∙ ap (λ y. take i xs ++ y ∷ []) (sym is)) ∙ map-append f (take i xs) (x ∷ [])
 
 -- one body more is answered at the books after all before it
-one_answer : (t : Layout) (h : Header) (books : Books) (earlier bodies : List (List ℕ)) (answers : List Answered) (body : List ℕ) (a : Answered)
-    → AreAnsweredFrom t h books earlier bodies answers → IsAnswered t h (books_after_bodies t books (earlier ++ bodies)) body a
-    → AreAnsweredFrom t h books earlier (bodies ++ body ∷ []) (answers ++ a ∷ [])
-one_answer t h books earlier [] [] body a all last = (subst (λ b. IsAnswered t h (books_after_bodies t books b) body a) (append-nil earlier) last, tt)
-one_answer t h books earlier [] (x ∷ answers) body a all last = elim all [ ]
-one_answer t h books earlier (b ∷ bodies) [] body a all last = elim all [ ]
-one_answer t h books earlier (b ∷ bodies) (x ∷ answers) body a all last = (
+one_answer : (l : Agreed) (books : Books) (earlier bodies : List (List ℕ)) (answers : List Answered) (body : List ℕ) (a : Answered)
+    → AreAnsweredFrom l books earlier bodies answers → IsAnswered l.table l.header (books_after_bodies l.table books (earlier ++ bodies)) body a
+    → AreAnsweredFrom l books earlier (bodies ++ body ∷ []) (answers ++ a ∷ [])
+one_answer l books earlier [] [] body a all last =
+    (subst (λ bs. IsAnswered l.table l.header (books_after_bodies l.table books bs) body a) (append-nil earlier) last, tt)
+one_answer l books earlier [] (x ∷ answers) body a all last = elim all [ ]
+one_answer l books earlier (b ∷ bodies) [] body a all last = elim all [ ]
+one_answer l books earlier (b ∷ bodies) (x ∷ answers) body a all last = (
   all.0,
-  one_answer t h books (earlier ++ b ∷ []) bodies answers body a all.1
-      (subst (λ l. IsAnswered t h (books_after_bodies t books l) body a) (sym (append_assoc earlier (b ∷ []) bodies)) last),
+  one_answer l books (earlier ++ b ∷ []) bodies answers body a all.1
+      (subst (λ bs. IsAnswered l.table l.header (books_after_bodies l.table books bs) body a) (sym (append_assoc earlier (b ∷ []) bodies)) last),
 )
 
 pub more_answered : (t : Layout) (h : Header) (books now : Books) (bodies : List (List ℕ)) (answers : List Answered) (body : List ℕ) (a : Answered)
@@ -51,9 +53,9 @@ pub more_answered : (t : Layout) (h : Header) (books now : Books) (bodies : List
     → AreAnswered t h books (bodies ++ body ∷ []) (answers ++ a ∷ [])
 unfolding AreAnswered
 more_answered t h books now bodies answers body a is all last =
-    one_answer t h books [] bodies answers body a all (subst (λ b. IsAnswered t h b body a) is last)
+    one_answer (agreed t h) books [] bodies answers body a all (subst (λ b. IsAnswered t h b body a) is last)
 
 -- no body has no answer
 pub none_answered : (t : Layout) (h : Header) (books : Books) (answers : List Answered) → answers ≡ [] → AreAnswered t h books [] answers
 unfolding AreAnswered
-none_answered t h books answers is = subst (AreAnsweredFrom t h books [] []) (sym is) tt
+none_answered t h books answers is = subst (AreAnsweredFrom (agreed t h) books [] []) (sym is) tt

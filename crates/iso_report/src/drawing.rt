@@ -6,7 +6,7 @@ use iso_tally::Bucket;
 use std::alloc::{AllocError, Global};
 
 /// How wide the longest bar is, in columns.
-const WIDTH: usize = 40;
+const BAR_COLUMNS: usize = 40;
 
 /// The words of where a bucket ends.
 pub(crate) fn end_of(alloc: Global, bucket: &Bucket) -> Result<String, AllocError> {
@@ -40,7 +40,7 @@ fn add_bucket(
         from.as_str(),
         end.as_str()
     )?;
-    let length = bar_length(count, most, WIDTH);
+    let length = bar_length(count, most, BAR_COLUMNS);
     if length > 0 {
         text.push_str("  ")?;
         add_bar(text, length)?;

@@ -37,16 +37,27 @@ pub(crate) fn add_row(text: &mut String, label: &str, count: u64) -> Result<(), 
     write!(text, "  {label:<24}{count:>12}\n")
 }
 
-/// Adds what happened to the traffic.
-pub(crate) fn add_traffic(text: &mut String, tally: &Tally) -> Result<(), AllocError> {
-    text.push_str("\nTraffic\n")?;
+/// Adds the counts that are always told.
+fn add_plain(text: &mut String, tally: &Tally) -> Result<(), AllocError> {
     for (label, count) in plain_rows(tally) {
         add_row(text, label, count)?;
     }
+    Ok(())
+}
+
+/// Adds the counts that are told where they are not 0.
+fn add_others(text: &mut String, tally: &Tally) -> Result<(), AllocError> {
     for (label, count) in other_rows(tally) {
         if count > 0 {
             add_row(text, label, count)?;
         }
     }
     Ok(())
+}
+
+/// Adds what happened to the traffic.
+pub(crate) fn add_traffic(text: &mut String, tally: &Tally) -> Result<(), AllocError> {
+    text.push_str("\nTraffic\n")?;
+    add_plain(text, tally)?;
+    add_others(text, tally)
 }

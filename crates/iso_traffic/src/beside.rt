@@ -93,12 +93,17 @@ impl<S: Read + Write + Drop> Engine<'_, S> {
         self.buy(driver, &money, now)
     }
 
-    /// Sends what began, and what no answer came to in time.
-    pub fn send_beside(&mut self, now: Moment) -> Result<(), TrafficFault> {
+    /// Sends what began.
+    fn send_fresh(&mut self, now: Moment) -> Result<(), TrafficFault> {
         let fresh = std::mem::replace(&mut self.fresh, Vec::new(self.alloc));
         for order in &fresh {
             self.send(order, now)?;
         }
+        Ok(())
+    }
+
+    /// Sends again what no answer came to in time, where a connection is open.
+    fn send_again(&mut self, now: Moment) -> Result<(), TrafficFault> {
         if self.lines.open() == 0 {
             return Ok(());
         }
@@ -110,6 +115,12 @@ impl<S: Read + Write + Drop> Engine<'_, S> {
             self.send(&order, now)?;
         }
         Ok(())
+    }
+
+    /// Sends what began, and what no answer came to in time.
+    pub fn send_beside(&mut self, now: Moment) -> Result<(), TrafficFault> {
+        self.send_fresh(now)?;
+        self.send_again(now)
     }
 
     /// Takes an answer to an order that is no purchase: whether it is one.

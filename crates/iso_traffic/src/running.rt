@@ -163,6 +163,27 @@ fn begin<R: Clock, L: NoteLog>(
     })
 }
 
+/// What came of a run of so many microseconds, which ended at a stage.
+fn outcome_of<L: NoteLog>(
+    alloc: Global,
+    engine: &mut Engine<'_, TcpStream>,
+    driver: &Driver<L>,
+    stage: Stage,
+    micros: u64,
+) -> Result<Outcome, TrafficFault> {
+    Ok(Outcome {
+        all_closed: driver.is_closed() && engine.sides.is_closed(),
+        moved: engine.moved()?,
+        mixed: engine.mixed(),
+        before: std::mem::replace(&mut engine.before, Vec::new(alloc)),
+        balances: match stage {
+            Stage::Opening | Stage::Buying => Vec::new(alloc),
+            Stage::Asking | Stage::Over => engine.inquiries.balances(alloc)?,
+        },
+        micros,
+    })
+}
+
 /// Runs until it is over, or its time is up.
 fn run<R: Net + Clock, L: NoteLog, W: Watch>(
     rt: &R,
@@ -195,17 +216,7 @@ fn run<R: Net + Clock, L: NoteLog, W: Watch>(
             now.millis(),
         )?;
     }
-    Ok(Outcome {
-        all_closed: driver.is_closed() && engine.sides.is_closed(),
-        moved: engine.moved()?,
-        mixed: engine.mixed(),
-        before: std::mem::replace(&mut engine.before, Vec::new(alloc)),
-        balances: match course.stage {
-            Stage::Opening | Stage::Buying => Vec::new(alloc),
-            Stage::Asking | Stage::Over => engine.inquiries.balances(alloc)?,
-        },
-        micros,
-    })
+    outcome_of(alloc, engine, driver, course.stage, micros)
 }
 
 /// Has a driver buy from a host as a plan says, over many connections, until all that it began is closed, or the time of the

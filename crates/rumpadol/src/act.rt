@@ -56,13 +56,16 @@ fn perform<S: Source + Journals + Diaries + System, I: Read, O: Write, F: Write>
     output: &mut O,
     faults: &mut F,
 ) -> Result<u8, Stop>
-    ensures done { IfOk result (Performs job.now (S.file source.now) (I.remaining input.old)
-        (O.contents output.old) (O.contents output.new)) }
+    ensures done { IfOk result (Performs job.now
+        (record { file = S.file source.now; input = I.remaining input.old })
+        (record { old = O.contents output.old; new = O.contents output.new })) }
     ensures range { IfOk result (λ status. status ≤ 1) }
 {
     if terminals.input && job.reads_input() && faults.write_all(HINT.as_bytes()).is_err() {
         return Err(Stop::Output);
     }
+    let runtime = source.runtime();
+    let on_screen = terminals.faults;
     match job {
         Job::Messages(job) => perform_messages(
             alloc, *job, source, terminals, input, output, faults,
@@ -71,26 +74,11 @@ fn perform<S: Source + Journals + Diaries + System, I: Read, O: Write, F: Write>
         Job::Host(words) => perform_host(alloc, words, source, terminals, input, output, faults),
         Job::Front(job) => perform_before_shards(alloc, job, source, terminals, input, faults),
         Job::Drive(job) => perform_drive(
-            alloc,
-            *job,
-            source.runtime(),
-            source,
-            terminals.faults,
-            input,
-            output,
-            faults,
+            alloc, *job, runtime, source, on_screen, input, output, faults,
         ),
-        Job::Books(job) => perform_journal(
-            alloc,
-            *job,
-            source,
-            source.runtime(),
-            terminals.faults,
-            output,
-            faults,
-        ),
+        Job::Books(job) => perform_journal(alloc, *job, source, runtime, on_screen, output, faults),
         Job::Import(words) => perform_import(alloc, *words, source, input, output, faults),
-        Job::Page(words) => perform_page(alloc, source.runtime(), *words, faults),
+        Job::Page(words) => perform_page(alloc, runtime, *words, faults),
     }
 }
 

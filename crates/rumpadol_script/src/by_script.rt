@@ -4,7 +4,7 @@ ghost use Rattle.std.specs.Prelude.{◌≡◌, IfOk};
 
 use crate::performing::{perform_script, script_at};
 use crate::words::ScriptWords;
-use iso_links::Limits;
+use iso_links::Terms;
 use iso_script_peers::Bounds;
 use rumpadol_journals::accounts_at;
 use rumpadol_ports::{HostWords, Outside, System, all_agreed, asked_of, check_stop_file};
@@ -13,11 +13,15 @@ use rumpadol_terminals::Terminals;
 use std::alloc::Global;
 use std::io::{Read, Write};
 
-/// What such a host allows its peers.
-fn bounds_of(limits: &Limits) -> Bounds {
-    Bounds {
-        peers: limits.peers,
-        waiting: limits.waiting,
+/// The words of a host that serves by the script at a path, on the port of a link.
+fn words_of<'a>(path: &'a str, terms: &Terms) -> ScriptWords<'a> {
+    ScriptWords {
+        path,
+        address: terms.address,
+        bounds: Bounds {
+            peers: terms.limits.peers,
+            waiting: terms.limits.waiting,
+        },
     }
 }
 
@@ -43,11 +47,7 @@ pub fn perform_by_script<S: Source + System, I: Read, F: Write>(
     };
     let (accounts, _heading) = accounts_at(alloc, source, words.kept.accounts)?;
     let script = script_at(alloc, source, path)?;
-    let asked = ScriptWords {
-        path,
-        address: terms.address,
-        bounds: bounds_of(&terms.limits),
-    };
+    let asked = words_of(path, terms);
     let mut outside = Outside {
         runtime,
         stop_file: words.stop_file,

@@ -8,6 +8,6 @@ pub returns-in-Ok : goal.returns-in-Ok
 returns-in-Ok g c = record {
   crashed = λ clean is left only.
       let seen = g.D.Disk.seen in
-      let found = ready_leaves seen g.D.Disk.may_leave g.D.Disk.is_usable c.args.before.now.log.log is.ready (diary_notes (records_of (seen c.args.disk))) (seen c.args.disk, left, refl) in
+      let found = ready_leaves c.args.before.now.log.log is.ready (diary_notes (records_of (seen c.args.disk))) (seen c.args.disk, left, refl) in
       (found.0, c.in-Ok.ensures.notes clean only ∙ found.1);
 }

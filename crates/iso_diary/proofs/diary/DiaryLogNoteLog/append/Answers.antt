@@ -11,22 +11,22 @@ returns-in-Ok-clause-ready g c = λ is. record { log_is = c.in-Ok.ensures.log is
 
 pub returns-in-Ok-clause-synced : goal.returns-in-Ok-clause-synced
 returns-in-Ok-clause-synced g c = λ is.
-    synced_same g.D.Disk.seen g.D.Disk.may_leave g.D.Disk.is_usable c.args.self.now.log c.append.new.self c.line_bytes-bytes.result is.log_is c.append.ensures.synced (c.in-Ok.ensures.records is.log_is)
+    synced_same c.args.self.now.log c.append.new.self {bytes = c.line_bytes-bytes.result} is.log_is (record { synced = c.append.ensures.synced; more = c.in-Ok.ensures.records is.log_is })
 
 pub returns-in-Ok-clause-pending : goal.returns-in-Ok-clause-pending
 returns-in-Ok-clause-pending g c = λ is.
-    pending_new g.D.Disk.seen g.D.Disk.may_leave g.D.Disk.is_usable c.args.self.now.log c.append.new.self c.line_bytes-bytes.result c.args.note is.log_is
+    pending_new c.args.self.now.log c.append.new.self {bytes = c.line_bytes-bytes.result} is.log_is
     (note_is (record { place = c.args.self.now.log.count; note = c.args.note }) c.line_bytes-bytes.result c.line_bytes-bytes.ensures.bytes (c.lines_come_back.ensures (record { place = c.args.self.now.log.count; note = c.args.note }) c.line_bytes-bytes.ensures.line))
-    c.append.ensures.synced (c.in-Ok.ensures.records is.log_is)
+    (record { synced = c.append.ensures.synced; more = c.in-Ok.ensures.records is.log_is })
 
 pub returns-in-Ok-clause-crash : goal.returns-in-Ok-clause-crash
 returns-in-Ok-clause-crash g c = λ is.
-    append_front g.D.Disk.seen g.D.Disk.may_leave g.D.Disk.is_usable c.args.self.now.log c.append.new.self c.line_bytes-bytes.result c.args.note is
+    append_front c.append.new.self c.line_bytes-bytes.result is
     (note_is (record { place = c.args.self.now.log.count; note = c.args.note }) c.line_bytes-bytes.result c.line_bytes-bytes.ensures.bytes (c.lines_come_back.ensures (record { place = c.args.self.now.log.count; note = c.args.note }) c.line_bytes-bytes.ensures.line))
     (c.append.ensures.crash is.log_is)
 
 pub returns-in-Err-clause-crash : goal.returns-in-Err-clause-crash
 returns-in-Err-clause-crash g c = λ is.
-    append_front g.D.Disk.seen g.D.Disk.may_leave g.D.Disk.is_usable c.args.self.now.log c.append.new.self c.line_bytes-bytes.result c.args.note is
+    append_front c.append.new.self c.line_bytes-bytes.result is
     (note_is (record { place = c.args.self.now.log.count; note = c.args.note }) c.line_bytes-bytes.result c.line_bytes-bytes.ensures.bytes (c.lines_come_back.ensures (record { place = c.args.self.now.log.count; note = c.args.note }) c.line_bytes-bytes.ensures.line))
     (c.append.ensures.crash is.log_is)
