@@ -23,6 +23,7 @@ them. What only tests and measures stands apart, in a column of its own: the cra
 - Its arguments by place are those that a use writes one after another. They are counted twice, and the greater count taken: on the left
   of its first equation, and before the last arrow of its type. `(a b : T)` are two, `{a : T}` is none, and a `module _ (a : T) where`
   adds its own. A record has those of its head.
+- A name has two definitions where two of one crate have it, in files of their own or not. Operators (`◌+◌`) aren't counted.
 - A line is too long beyond 100 columns. Of specs/ these are lines that belong to a definition, so neither `use` nor comments.
 """
 import argparse
@@ -295,6 +296,16 @@ def over(paths, most):
     return [Place(path, most + 1, f"{size} lines") for path, size in sizes if size > most]
 
 
+def given_twice(definitions):
+    """The definitions whose name another one of the same crate has: a word with two senses. An operator is read by what it stands on."""
+    firsts = {}
+    for one in definitions:
+        if "◌" not in one.name:
+            crate = str(one.place.path).partition("/specs/")[0]
+            firsts.setdefault((crate, one.name), []).append(one.place)
+    return [place for places in firsts.values() for place in places[1:]]
+
+
 def measures_of(folders):
     """All measures of some crates."""
     sources = [Source(path) for path in files_of(folders, "src", "*.rt")]
@@ -312,20 +323,21 @@ def measures_of(folders):
     def is_long(function):
         return function[1] > LONGEST_FUNCTION
     return [
-        Measure("functions over 40 lines", [one[0] for one in functions if is_long(one)], len(functions), False),
+        Measure("functions over 40 lines", [one[0] for one in functions if is_long(one)], len(functions), True),
         Measure("lines of the longest function", [longest[0]], 0, False, longest[1]),
-        Measure("functions with more than one loop", [one[0] for one in functions if one[2] > 1], len(functions), False),
+        Measure("functions with more than one loop", [one[0] for one in functions if one[2] > 1], len(functions), True),
         Measure("files of code over 250 lines", over(code, 250), len(code), False),
-        Measure("files of code over 400 lines", over(code, 400), len(code), False),
-        Measure("files of definitions over 250 lines", over(specs, 250), len(specs), False),
+        Measure("files of code over 400 lines", over(code, 400), len(code), True),
+        Measure("files of definitions over 250 lines", over(specs, 250), len(specs), True),
         Measure("files of definitions over 400 lines", over(specs, 400), len(specs), True),
         Measure("public items without a comment", [place for place, worded in items if not worded], len(items), True),
         Measure("clauses with a line over 100 columns", [place for place, is_wide in clauses if is_wide], len(clauses), True),
         Measure("ghost views and invariants with such a line", [place for place, is_wide in ghosts if is_wide], len(ghosts), True),
-        Measure("definitions without a comment", [one.place for one in definitions if not one.is_worded], len(definitions), False),
+        Measure("definitions without a comment", [one.place for one in definitions if not one.is_worded], len(definitions), True),
+        Measure("names with two definitions in a crate", given_twice(definitions), len(definitions), True),
         Measure("definitions with more than five arguments by place",
-                [one.place for one in definitions if one.all_arguments() > MOST_ARGUMENTS], len(definitions), False),
-        Measure("lines of definitions over 100 columns", wide, len(lines), False),
+                [one.place for one in definitions if one.all_arguments() > MOST_ARGUMENTS], len(definitions), True),
+        Measure("lines of definitions over 100 columns", wide, len(lines), True),
     ]
 
 
