@@ -2,6 +2,7 @@
 import contextlib
 import http.client
 import os
+import pathlib
 import socket
 import threading
 import time
@@ -65,6 +66,11 @@ class Replica:
     def send(self, number):
         """A signal to it."""
         self.host.process.send_signal(number)
+
+    def stands_still(self):
+        """Whether the system has stopped it."""
+        told = pathlib.Path(f"/proc/{self.host.process.pid}/stat").read_text()
+        return told.rpartition(")")[2].split()[0] == "T"
 
     def clear(self):
         if self.host and self.runs():

@@ -149,15 +149,17 @@ class Replicas(Ends):
         return other.port in self.relay.firsts
 
     def take_over(self, kind, stop):
-        """Has the active host stopped, and waits for the first answer of the other one: the one that was active."""
+        """Has the active host stopped, and waits for the first answer of the other one: both, first the one that was active. What the
+        other one answered before, where it was active by chance, doesn't count."""
         active, other = self.active()
         time.sleep(self.choose.uniform(0, LEASE))
+        self.relay.begin()
         process, began = other.host.process, time.monotonic()
         stop(active)
         answers = self.waits(lambda: self.answers_in_place(other), WAIT, f"the other host answers after the active one was {kind}")
         if answers and other.host.process is process:
             self.take_overs.append((kind, self.relay.firsts[other.port] - began))
-        return active
+        return active, other
 
     def see_end(self, replica, why):
         """Waits for the end of a host, which has to tell one of these reasons, and starts it again as the standby."""
@@ -169,28 +171,45 @@ class Replicas(Ends):
     # ---- what breaks
 
     def kill_active(self):
-        active = self.take_over("killed", lambda active: active.host.kill())
+        active, _ = self.take_over("killed", lambda active: active.host.kill())
         self.done["kills of the active host"] += 1
         active.start_standby()
 
     def hand_over(self):
-        active = self.take_over("called off", lambda active: active.host.end_input())
+        active, _ = self.take_over("called off", lambda active: active.host.end_input())
         status, told = active.host.ends()
         if status != 0:
             self.tell_bad(f"a host that was called off ended with status {status}: {told!r}")
         self.done["times that the active host was called off"] += 1
         active.start_standby()
 
+    def enters(self, replica):
+        """Whether a host answers a new order, which has its place in the journal then. A repeat takes none."""
+        if not self.answers_in_place(replica):
+            return False
+        with contextlib.suppress(OSError):
+            peer = Peer(replica.port, patience=BOTH)
+            peer.send(self.other_order())
+            answers = peer.take(SPELLING, 1)
+            peer.close()
+            for answer in answers:
+                self.relay.note(answer, True)
+            return bool(answers)
+        return False
+
     def pause_active(self):
-        """The active host stands still until the other one has taken over. It has an order to answer when it goes on."""
+        """The active host stands still until the other one has taken over and entered an order. It has an order to answer when it goes
+        on."""
         peers = []
 
         def stop(active):
             peers.append(Peer(active.port, patience=BOTH))
             active.send(signal.SIGSTOP)
+            self.waits(active.stands_still, WAIT, "a host that is stopped stands still")
             peers[0].send(self.other_order())
 
-        active = self.take_over("stopped", stop)
+        active, other = self.take_over("stopped", stop)
+        self.waits(lambda: self.enters(other), WAIT, "the host that took over enters an order")
         active.send(signal.SIGCONT)
         try:
             came = peers[0].waits_for_close()
