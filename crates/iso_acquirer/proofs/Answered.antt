@@ -16,7 +16,7 @@ use Rattle.iso_acquirer.specs.declared.slot.Role.{Role}
 use Rattle.iso_acquirer.specs.declared.slot.Role.TheVariants.{Transaction, Reversal}
 use Rattle.iso_acquirer.specs.declared.slot.Stage.{Stage}
 use Rattle.iso_acquirer.specs.declared.slot.Stage.TheVariants.{Waiting, Reversing, Approved, Declined, Reversed}
-use Rattle.iso_acquirer.specs.Acquirer.{slot_at, undo_of, stage_after, stage_after_undo, slots_after_answer, slots_after_answer_in, slots_after_answer_at}
+use Rattle.iso_acquirer.specs.Acquirer.{slot_at, undo_of, reversal_under, stage_after, stage_after_undo, slots_after_answer, slots_after_answer_in_role, slots_after_answer_of_slot}
 use Rattle.iso_acquirer.specs.Agreed.{answer_at, code_at, IsStageOf, IsReversal, IsRole, IsAgreed}
 use Rattle.iso_acquirer.proofs.Keys.{same_key_is, same_key_self, same_number, some_is}
 use Rattle.iso_acquirer.proofs.Numbered.{found}
@@ -55,28 +55,28 @@ held-undone entries k code (Declined c) r h = h
 held-undone entries k code (Reversed u) r h = h
 
 -- neither makes or drops a reversal
-after-undo : (code : ℕ) (stage : Stage) → undo_of (stage_after code stage) ≡ undo_of stage
-after-undo code (Waiting n) = go (code == 0) ((code == 94) || (code == 96))
+after-undo : (code : ℕ) (o : Instruction) (stage : Stage) → undo_of o (stage_after code stage) ≡ undo_of o stage
+after-undo code o (Waiting n) = go (code == 0) ((code == 94) || (code == 96))
   where
-    go : (b t : Bool) → undo_of (cond b Approved (cond t (Waiting n) (Declined code))) ≡ None
+    go : (b t : Bool) → undo_of o (cond b Approved (cond t (Waiting n) (Declined code))) ≡ None
     go true t = refl
     go false true = refl
     go false false = refl
-after-undo code (Reversing u) = refl
-after-undo code Approved = refl
-after-undo code (Declined c) = refl
-after-undo code (Reversed u) = refl
+after-undo code o (Reversing u) = refl
+after-undo code o Approved = refl
+after-undo code o (Declined c) = refl
+after-undo code o (Reversed u) = refl
 
-undone-undo : (code : ℕ) (stage : Stage) → undo_of (stage_after_undo code stage) ≡ undo_of stage
-undone-undo code (Waiting n) = refl
-undone-undo code (Reversing u) = go (code == 0)
+undone-undo : (code : ℕ) (o : Instruction) (stage : Stage) → undo_of o (stage_after_undo code stage) ≡ undo_of o stage
+undone-undo code o (Waiting n) = refl
+undone-undo code o (Reversing u) = go (code == 0)
   where
-    go : (b : Bool) → undo_of (cond b (Reversed u) (Reversing u)) ≡ Some u
+    go : (b : Bool) → undo_of o (cond b (Reversed u) (Reversing u)) ≡ Some (reversal_under u o)
     go true = refl
     go false = refl
-undone-undo code Approved = refl
-undone-undo code (Declined c) = refl
-undone-undo code (Reversed u) = refl
+undone-undo code o Approved = refl
+undone-undo code o (Declined c) = refl
+undone-undo code o (Reversed u) = refl
 
 entry_of_answer : (es : List Entry) (k : TxKey) (a : Outcome) → answer_at es k ≡ Some a → (e : Entry) × (entry_at es k ≡ Some e)
 entry_of_answer es k a h = go (entry_at es k) refl h
@@ -102,27 +102,27 @@ module _ (wholly : WhollyIsReversed) (id : ℕ) (slots : List Slot) (sent : List
       wholly entries t.order.key key entry.0 (all_wholly id slots sent given entries w n t stage there place role) entry.1 names
 
   by_role : (s : Slot) (role : Role) → slot_at slots key.stan ≡ Some s → s.order.key ≡ key → s.role ≡ role → IsRole entries slots s.order role →
-      IsAgreed id (slots_after_answer_in slots key.stan a.code role) sent given entries
+      IsAgreed id (slots_after_answer_in_role slots key.stan a.code role) sent given entries
   by_role s (Transaction stage) here is role h =
       agreed-changed id slots sent given entries (stage_after a.code) key.stan w
-      (λ t from u there held undo. after-undo a.code from ∙ undo)
+      (λ t from u there held undo. after-undo a.code t.order from ∙ undo)
       (λ t from there held h.
       let same : s ≡ t = some_is s t (sym here ∙ there) in
       held-after entries t.order.key a from (ap (answer_at entries) (ap (λ (x : Slot). x.order.key) (sym same) ∙ is) ∙ kept) h)
-      (λ t from u there held undo. (transaction_at id slots sent given entries w key.stan t from there held).undone u (sym (after-undo a.code from) ∙ undo))
+      (λ t from u there held undo. (transaction_at id slots sent given entries w key.stan t from there held).undone u (sym (after-undo a.code t.order from) ∙ undo))
   by_role s (Reversal n) here is role h =
       agreed-changed id slots sent given entries (stage_after_undo a.code) n w
-      (λ t from u there held undo. undone-undo a.code from ∙ undo)
+      (λ t from u there held undo. undone-undo a.code t.order from ∙ undo)
       (λ t from there held g. held-undone entries t.order.key a.code from (entered-undo s n t from here is h there held) g)
-      (λ t from u there held undo. (transaction_at id slots sent given entries w n t from there held).undone u (sym (undone-undo a.code from) ∙ undo))
+      (λ t from u there held undo. (transaction_at id slots sent given entries w n t from there held).undone u (sym (undone-undo a.code t.order from) ∙ undo))
 
-  by_test : (s : Slot) (b : Bool) → slot_at slots key.stan ≡ Some s → same_key s.order.key key ≡ b → IsAgreed id (cond b (slots_after_answer_in slots key.stan a.code s.role) slots) sent given entries
+  by_test : (s : Slot) (b : Bool) → slot_at slots key.stan ≡ Some s → same_key s.order.key key ≡ b → IsAgreed id (cond b (slots_after_answer_in_role slots key.stan a.code s.role) slots) sent given entries
   by_test s true here e = by_role s s.role here (same_key_is s.order.key key e) refl (w.slots_hold key.stan s here).role
   by_test s false here e = w
 
   pub agreed-answered : IsAgreed id (slots_after_answer slots key a.code) sent given entries
   agreed-answered = by_slot (slot_at slots key.stan) refl
     where
-      by_slot : (f : Option Slot) → slot_at slots key.stan ≡ f → IsAgreed id (slots_after_answer_at slots key a.code f) sent given entries
+      by_slot : (f : Option Slot) → slot_at slots key.stan ≡ f → IsAgreed id (slots_after_answer_of_slot slots key a.code f) sent given entries
       by_slot None e = w
       by_slot (Some s) e = by_test s (same_key s.order.key key) e refl

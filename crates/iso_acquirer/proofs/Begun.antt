@@ -4,7 +4,7 @@ use Rattle.std.specs.Prelude.{◌==◌, Option, Some, None, option_map}
 use Rattle.std.specs.List.{AllByRecursion}
 use Rattle.std.specs.Option.{option_or}
 use Rattle.std.proofs.lemmas.List.Folds.{find-append}
-use Rattle.iso_order.specs.declared.act.Act.TheVariants.{Debit, Undo}
+use Rattle.iso_order.specs.declared.act.Act.TheVariants.{Debit}
 use Rattle.iso_order.specs.declared.act.Money.{Money}
 use Rattle.iso_order.specs.Order.{Instruction}
 use Rattle.iso_issuer.specs.declared.journal.Entry.{Entry}
@@ -13,10 +13,10 @@ use Rattle.iso_acquirer.specs.declared.slot.Slot.{Slot}
 use Rattle.iso_acquirer.specs.declared.slot.Role.{Role}
 use Rattle.iso_acquirer.specs.declared.slot.Role.TheVariants.{Transaction, Reversal}
 use Rattle.iso_acquirer.specs.declared.slot.Stage.TheVariants.{Waiting, Reversing}
-use Rattle.iso_acquirer.specs.Acquirer.{slot_at, order_at, undo_of, on_stage, slot_at_stage, slots_at_stage, transaction_of, reversal_for, slots_with, slots_with_reversal}
+use Rattle.iso_acquirer.specs.Acquirer.{slot_at, order_at, undo_of, reversal_under, on_stage, slot_at_stage, slots_at_stage, transaction_of, reversal_for, slots_with, slots_with_reversal}
 use Rattle.iso_acquirer.specs.Room.{AreNumbered}
 use Rattle.iso_acquirer.specs.Agreed.{answer_at, IsRole, IsSlot, IsKnown, IsAgreed}
-use Rattle.iso_acquirer.proofs.Keys.{some_is, none_is_not, number_self}
+use Rattle.iso_acquirer.proofs.Keys.{some_is, none_is_not, same_number, number_self}
 use Rattle.iso_acquirer.proofs.Lists.{all-push, all-weaker, find-more}
 use Rattle.iso_acquirer.proofs.Numbered.{above, found, numbered-changed, numbered-push, length-changed}
 use Rattle.iso_acquirer.proofs.Clauses.{slot_of_order, same_stage}
@@ -111,36 +111,37 @@ agreed-begun id slots sent given entries o m w next own base act =
 
 module _ (id : ℕ) (slots : List Slot) (sent : List Instruction) (given : List Given) (entries : List Entry) (stan n : ℕ) (s : Slot) (u : Instruction)
     (w : IsAgreed id slots sent given entries) (here : slot_at slots stan ≡ Some s) (role : s.role ≡ Transaction (Waiting n))
-    (next : u.key.stan ≡ length slots + 1) (own : u.key.acquirer ≡ id) (names : u.act ≡ Undo s.order.key 0) where
+    (next : u.key.stan ≡ length slots + 1) (own : u.key.acquirer ≡ id) (is : u ≡ reversal_under u.key.stan s.order) where
   abbrev marked : List Slot
-  marked = slots_at_stage (λ _. Reversing u) stan slots
+  marked = slots_at_stage (λ _. Reversing u.key.stan) stan slots
 
-  keeps : KeepsUndo slots (λ _. Reversing u) stan
+  keeps : KeepsUndo slots (λ _. Reversing u.key.stan) stan
   keeps x stage v there is undo =
       let same : Waiting n ≡ stage = same_stage (Waiting n) stage (sym role ∙ ap (λ (y : Slot). y.role) (some_is s x (sym here ∙ there)) ∙ is) in
-      absurd (none_is_not v (ap undo_of same ∙ undo))
+      absurd (none_is_not v (ap (undo_of x.order) same ∙ undo))
 
   length_marked : length marked ≡ length slots
-  length_marked = length-changed (λ _. Reversing u) stan slots
+  length_marked = length-changed (λ _. Reversing u.key.stan) stan slots
 
   next_marked : u.key.stan ≡ length marked + 1
   next_marked = next ∙ ap (λ k. k + 1) (sym length_marked)
 
   numbered_marked : AreNumbered 1 marked
-  numbered_marked = numbered-changed (λ _. Reversing u) stan slots 1 w.numbered
+  numbered_marked = numbered-changed (λ _. Reversing u.key.stan) stan slots 1 w.numbered
 
   pub order_reversing : order_at (slots_with_reversal slots stan u) u.key.stan ≡ Some u
   order_reversing = order-new marked (reversal_for stan u) numbered_marked next_marked
 
-  role_marked : (x : Slot) (r : Role) → IsRole entries slots x.order r → IsRole entries (slots_with_reversal slots stan u) x.order (on_stage (λ _. Reversing u) r)
-  role_marked x (Transaction stage) h = record {
+  role_marked : (x : Slot) → s ≡ x → (r : Role) → IsRole entries slots x.order r → IsRole entries (slots_with_reversal slots stan u) x.order (on_stage (λ _. Reversing u.key.stan) r)
+  role_marked x same (Transaction stage) h = record {
     base = h.base;
     money = h.money;
     debit = h.debit;
     held = tt;
-    undone = λ v is. subst (λ (z : Instruction). order_at (slots_with_reversal slots stan u) z.key.stan ≡ Some z) (some_is u v is) order_reversing;
+    undone = λ v made. subst (λ (z : Instruction). order_at (slots_with_reversal slots stan u) z.key.stan ≡ Some z)
+        (some_is u v (ap Some (is ∙ ap (λ (y : Slot). reversal_under u.key.stan y.order) same) ∙ made)) order_reversing;
   }
-  role_marked x (Reversal k) h = role-more entries marked (reversal_for stan u) x.order (Reversal k) (reversal-changed (λ _. Reversing u) stan slots k x.order w.numbered keeps h)
+  role_marked x same (Reversal k) h = role-more entries marked (reversal_for stan u) x.order (Reversal k) (reversal-changed (λ _. Reversing u.key.stan) stan slots k x.order w.numbered keeps h)
 
   role_other : (x : Slot) (r : Role) → IsRole entries slots x.order r → IsRole entries (slots_with_reversal slots stan u) x.order r
   role_other x (Transaction stage) h = record {
@@ -148,35 +149,38 @@ module _ (id : ℕ) (slots : List Slot) (sent : List Instruction) (given : List 
     money = h.money;
     debit = h.debit;
     held = h.held;
-    undone = λ v is. order-more marked (reversal_for stan u) v.key.stan v (order-changed (λ _. Reversing u) stan slots v.key.stan ∙ h.undone v is);
+    undone = λ v is. order-more marked (reversal_for stan u) v.key.stan v (order-changed (λ _. Reversing u.key.stan) stan slots v.key.stan ∙ h.undone v is);
   }
-  role_other x (Reversal k) h = role-more entries marked (reversal_for stan u) x.order (Reversal k) (reversal-changed (λ _. Reversing u) stan slots k x.order w.numbered keeps h)
+  role_other x (Reversal k) h = role-more entries marked (reversal_for stan u) x.order (Reversal k) (reversal-changed (λ _. Reversing u.key.stan) stan slots k x.order w.numbered keeps h)
 
   -- what was kept before the reversal
   before : (k : ℕ) (t : Slot) → slot_at marked k ≡ Some t → IsSlot id entries (slots_with_reversal slots stan u) t
   before k t there =
-      let back = changed-back (λ _. Reversing u) stan slots k t there in
-      subst (IsSlot id entries (slots_with_reversal slots stan u)) back.2 (by_test back.0 back.1 (back.0.order.key.stan == stan))
+      let back = changed-back (λ _. Reversing u.key.stan) stan slots k t there in
+      subst (IsSlot id entries (slots_with_reversal slots stan u)) back.2 (by_test back.0 back.1 (back.0.order.key.stan == stan) refl)
     where
-      by_test : (x : Slot) → slot_at slots k ≡ Some x → (b : Bool) → IsSlot id entries (slots_with_reversal slots stan u) (cond b (slot_at_stage (λ _. Reversing u) x) x)
-      by_test x at true = let old = w.slots_hold k x at in record { own = old.own; role = role_marked x x.role old.role }
-      by_test x at false = let old = w.slots_hold k x at in record { own = old.own; role = role_other x x.role old.role }
+      by_test : (x : Slot) → slot_at slots k ≡ Some x → (b : Bool) → (x.order.key.stan == stan) ≡ b → IsSlot id entries (slots_with_reversal slots stan u) (cond b (slot_at_stage (λ _. Reversing u.key.stan) x) x)
+      by_test x at true e =
+          let old = w.slots_hold k x at in
+          let place : k ≡ stan = sym (found slots 1 k x w.numbered at).0 ∙ same_number x.order.key.stan stan e in
+          record { own = old.own; role = role_marked x (some_is s x (sym here ∙ ap (slot_at slots) (sym place) ∙ at)) x.role old.role }
+      by_test x at false e = let old = w.slots_hold k x at in record { own = old.own; role = role_other x x.role old.role }
 
   pub agreed-reversing : IsAgreed id (slots_with_reversal slots stan u) (sent ++ u ∷ []) given entries
   agreed-reversing =
       agreed-sent id (slots_with_reversal slots stan u) sent given entries u
       (agreed-made id marked sent given entries (reversal_for stan u) numbered_marked before
-      (known-changed id (λ _. Reversing u) stan slots entries w.entries_known) (sent-changed (λ _. Reversing u) stan slots sent w.sent_known) w.given_kept next_marked
+      (known-changed id (λ _. Reversing u.key.stan) stan slots entries w.entries_known) (sent-changed (λ _. Reversing u.key.stan) stan slots sent w.sent_known) w.given_kept next_marked
       (record {
         own = own;
         role = record {
-          original = slot_at_stage (λ _. Reversing u) s;
-          stage = Reversing u;
-          found = slot-more marked (reversal_for stan u) stan (slot_at_stage (λ _. Reversing u) s)
-              (changed-found (λ _. Reversing u) stan slots stan s here ∙ ap (λ b. Some (cond b (slot_at_stage (λ _. Reversing u) s) s)) (number_self s.order.key.stan stan (found slots 1 stan s w.numbered here).0));
-          transaction = ap (on_stage (λ _. Reversing u)) role;
-          kept = refl;
-          names = names;
+          original = slot_at_stage (λ _. Reversing u.key.stan) s;
+          stage = Reversing u.key.stan;
+          found = slot-more marked (reversal_for stan u) stan (slot_at_stage (λ _. Reversing u.key.stan) s)
+              (changed-found (λ _. Reversing u.key.stan) stan slots stan s here ∙ ap (λ b. Some (cond b (slot_at_stage (λ _. Reversing u.key.stan) s) s)) (number_self s.order.key.stan stan (found slots 1 stan s w.numbered here).0));
+          transaction = ap (on_stage (λ _. Reversing u.key.stan)) role;
+          kept = ap Some (sym is);
+          names = ap (λ (o : Instruction). o.act) is;
         };
       }))
       order_reversing

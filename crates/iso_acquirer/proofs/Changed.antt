@@ -33,7 +33,7 @@ slot-changed step stan (s ∷ ss) n = by_tests (s.order.key.stan == stan) (s.ord
 
 -- a reversal that there is stays
 abbrev pub KeepsUndo : List Slot → (Stage → Stage) → ℕ → Type 0
-KeepsUndo slots step stan = (s : Slot) (stage : Stage) (u : Instruction) → slot_at slots stan ≡ Some s → s.role ≡ Transaction stage → undo_of stage ≡ Some u → undo_of (step stage) ≡ Some u
+KeepsUndo slots step stan = (s : Slot) (stage : Stage) (u : Instruction) → slot_at slots stan ≡ Some s → s.role ≡ Transaction stage → undo_of s.order stage ≡ Some u → undo_of s.order (step stage) ≡ Some u
 
 changed-order : (step : Stage → Stage) (stan : ℕ) (s : Slot) → (changed_slot step stan s).order ≡ s.order
 changed-order step stan s = go (s.order.key.stan == stan)
@@ -100,7 +100,7 @@ reversal-changed step stan slots n o numbered keeps u = by_test (u.original.orde
 module _ (id : ℕ) (slots : List Slot) (sent : List Instruction) (given : List Given) (entries : List Entry) (step : Stage → Stage) (stan : ℕ)
     (w : IsAgreed id slots sent given entries) (keeps : KeepsUndo slots step stan)
     (holds : (s : Slot) (stage : Stage) → slot_at slots stan ≡ Some s → s.role ≡ Transaction stage → IsStageOf entries s.order.key stage → IsStageOf entries s.order.key (step stage))
-    (undone : (s : Slot) (stage : Stage) (u : Instruction) → slot_at slots stan ≡ Some s → s.role ≡ Transaction stage → undo_of (step stage) ≡ Some u → order_at slots u.key.stan ≡ Some u) where
+    (undone : (s : Slot) (stage : Stage) (u : Instruction) → slot_at slots stan ≡ Some s → s.role ≡ Transaction stage → undo_of s.order (step stage) ≡ Some u → order_at slots u.key.stan ≡ Some u) where
   stepped-role : (s : Slot) → slot_at slots stan ≡ Some s → (role : Role) → s.role ≡ role → IsRole entries slots s.order role → IsRole entries (slots_at_stage step stan slots) s.order (on_stage step role)
   stepped-role s here (Transaction stage) is h = record {
     base = h.base;

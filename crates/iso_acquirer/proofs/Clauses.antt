@@ -88,14 +88,14 @@ module _ (id : ℕ) (slots : List Slot) (sent : List Instruction) (given : List 
 
   -- an entered reversal of a transaction is the one that the acquirer made, and leaves nothing
   pub own_reversal : (n : ℕ) (s : Slot) (stage : Stage) → slot_at slots n ≡ Some s → s.order.key.stan ≡ n → s.role ≡ Transaction stage →
-      (r : Entry) → IsKnown id slots r → is_key (undone_key r.order.act) s.order.key ≡ true → (left_by r.order.act ≡ 0) × (undo_of stage ≡ Some r.order)
+      (r : Entry) → IsKnown id slots r → is_key (undone_key r.order.act) s.order.key ≡ true → (left_by r.order.act ≡ 0) × (undo_of s.order stage ≡ Some r.order)
   own_reversal n s stage here place role r known is =
       let act = reverses s.order.key r.order.act is in
       let own : r.order.key.acquirer ≡ id = sym (undo-acquirer r.order s.order.key (left_by r.order.act) known.valid act) ∙ (w.slots_hold n s here).own in
       let under = slot_of_order slots r.order.key.stan r.order (known.own own) in
       by_role under.0 under.2 under.0.role (w.slots_hold r.order.key.stan under.0 under.1).role
     where
-      by_role : (x : Slot) → x.order ≡ r.order → (role : Role) → IsRole entries slots x.order role → (left_by r.order.act ≡ 0) × (undo_of stage ≡ Some r.order)
+      by_role : (x : Slot) → x.order ≡ r.order → (role : Role) → IsRole entries slots x.order role → (left_by r.order.act ≡ 0) × (undo_of s.order stage ≡ Some r.order)
       by_role x same (Transaction other) held =
           absurd (debit_not_undo held.money s.order.key (left_by r.order.act) (sym held.debit ∙ ap (λ (o : Instruction). o.act) same ∙ reverses s.order.key r.order.act is))
       by_role x same (Reversal stan) held =
@@ -104,10 +104,10 @@ module _ (id : ℕ) (slots : List Slot) (sent : List Instruction) (given : List 
           let at : n ≡ stan = sym place ∙ ap (λ (k : TxKey). k.stan) key ∙ (found slots 1 stan held.original w.numbered held.found).0 in
           let one : s ≡ held.original = some_is s held.original (sym here ∙ ap (slot_at slots) at ∙ held.found) in
           let stages : stage ≡ held.stage = same_stage stage held.stage (sym role ∙ ap (λ (x : Slot). x.role) one ∙ held.transaction) in
-          (ap left_by act, ap undo_of stages ∙ held.kept ∙ ap Some same)
+          (ap left_by act, ap (λ (x : Slot). undo_of x.order stage) one ∙ ap (undo_of held.original.order) stages ∙ held.kept ∙ ap Some same)
 
   -- no entered order reverses a transaction that has no reversal
-  pub none_reverses : (n : ℕ) (s : Slot) (stage : Stage) → slot_at slots n ≡ Some s → s.order.key.stan ≡ n → s.role ≡ Transaction stage → undo_of stage ≡ None → NoneReverses entries s.order.key
+  pub none_reverses : (n : ℕ) (s : Slot) (stage : Stage) → slot_at slots n ≡ Some s → s.order.key.stan ≡ n → s.role ≡ Transaction stage → undo_of s.order stage ≡ None → NoneReverses entries s.order.key
   none_reverses n s stage here place role none =
       all-weaker (IsKnown id slots) (λ r. is_key (undone_key r.order.act) s.order.key ≡ false) entries (λ r known. by_test r known (is_key (undone_key r.order.act) s.order.key) refl) w.entries_known
     where
@@ -165,6 +165,6 @@ module _ (id : ℕ) (slots : List Slot) (sent : List Instruction) (given : List 
       no_more accounts orders s.order.key kept.0 (class_two s.order.key t.base) kept.1
       (falls (journal_of accounts orders) kept.0 (λ z. t.held.1 (sym kept.2 ∙ z)))
 
-  pub reversed-never : ReversedNeverStands → (n : ℕ) (s : Slot) (u : Instruction) → slot_at slots n ≡ Some s → s.role ≡ Transaction (Reversed u) → NeverStands accounts orders s.order.key
+  pub reversed-never : ReversedNeverStands → (n : ℕ) (s : Slot) (u : ℕ) → slot_at slots n ≡ Some s → s.role ≡ Transaction (Reversed u) → NeverStands accounts orders s.order.key
   reversed-never never n s u here role =
       never accounts orders s.order.key (transaction_at id slots sent given (journal_of accounts orders) w n s (Reversed u) here role).held

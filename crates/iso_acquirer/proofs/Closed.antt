@@ -15,7 +15,7 @@ use Rattle.iso_acquirer.specs.declared.slot.Role.TheVariants.{Transaction, Rever
 use Rattle.iso_acquirer.specs.declared.slot.Stage.{Stage}
 use Rattle.iso_acquirer.specs.declared.slot.Stage.TheVariants.{Waiting, Reversing, Approved, Declined, Reversed}
 use Rattle.iso_acquirer.specs.declared.state.State.{State}
-use Rattle.iso_acquirer.specs.Acquirer.{slot_at, state_by, state_in, state_of, on_stage, slot_at_stage, slots_at_stage, reversal_for, stage_after, stage_after_undo, slots_after_answer, slots_after_answer_in, slots_after_answer_at, next_reversal, slots_with_reversal, timeout, timeout_of_slot, timeout_in_role, timeout_at_stage}
+use Rattle.iso_acquirer.specs.Acquirer.{slot_at, state_at_stage, state_in_role, state_of, on_stage, slot_at_stage, slots_at_stage, reversal_for, stage_after, stage_after_undo, slots_after_answer, slots_after_answer_in_role, slots_after_answer_of_slot, reversal_under, next_reversal, slots_with_reversal, timeout, timeout_of_slot, timeout_in_role, timeout_at_stage}
 use Rattle.iso_acquirer.specs.Room.{AreNumbered}
 use Rattle.iso_acquirer.specs.World.{World, IsMade, IsRan, IsStep, refusal_count}
 use Rattle.iso_acquirer.specs.Agreed.{IsSound}
@@ -37,39 +37,39 @@ stays-same slots stan state told closed = told
 stays-pushed : (slots : List Slot) (t : Slot) → StaysIn slots (slots ++ t ∷ [])
 stays-pushed slots t stan state told closed = by_slot (slot_at slots stan) refl told
   where
-    by_slot : (f : Option Slot) → slot_at slots stan ≡ f → option_and_then (λ s. state_in s.role) f ≡ Some state → state_of (slots ++ t ∷ []) stan ≡ Some state
+    by_slot : (f : Option Slot) → slot_at slots stan ≡ f → option_and_then (λ s. state_in_role s.role) f ≡ Some state → state_of (slots ++ t ∷ []) stan ≡ Some state
     by_slot None e told = cc
-    by_slot (Some s) e told = ap (option_and_then (λ (s : Slot). state_in s.role)) (slot-more slots t stan s e) ∙ told
+    by_slot (Some s) e told = ap (option_and_then (λ (s : Slot). state_in_role s.role)) (slot-more slots t stan s e) ∙ told
 
 stays-changed : (step : Stage → Stage) (m : ℕ) (slots : List Slot) → AreNumbered 1 slots →
-    ((s : Slot) (stage : Stage) → slot_at slots m ≡ Some s → s.role ≡ Transaction stage → is_closed (state_by stage) ≡ true → state_by (step stage) ≡ state_by stage) → StaysIn slots (slots_at_stage step m slots)
+    ((s : Slot) (stage : Stage) → slot_at slots m ≡ Some s → s.role ≡ Transaction stage → is_closed (state_at_stage stage) ≡ true → state_at_stage (step stage) ≡ state_at_stage stage) → StaysIn slots (slots_at_stage step m slots)
 stays-changed step m slots numbered keeps stan state told closed = by_slot (slot_at slots stan) refl told
   where
-    by_role : (s : Slot) → slot_at slots m ≡ Some s → (role : Role) → s.role ≡ role → state_in role ≡ Some state → state_in (on_stage step role) ≡ Some state
+    by_role : (s : Slot) → slot_at slots m ≡ Some s → (role : Role) → s.role ≡ role → state_in_role role ≡ Some state → state_in_role (on_stage step role) ≡ Some state
     by_role s here (Transaction stage) role told =
-        let final : is_closed (state_by stage) ≡ true = ap is_closed (some_is (state_by stage) state told) ∙ closed in
+        let final : is_closed (state_at_stage stage) ≡ true = ap is_closed (some_is (state_at_stage stage) state told) ∙ closed in
         ap Some (keeps s stage here role final) ∙ told
     by_role s here (Reversal k) role told = cc
 
-    by_test : (s : Slot) → slot_at slots stan ≡ Some s → (b : Bool) → (s.order.key.stan == m) ≡ b → state_in s.role ≡ Some state → state_in (cond b (slot_at_stage step s) s).role ≡ Some state
+    by_test : (s : Slot) → slot_at slots stan ≡ Some s → (b : Bool) → (s.order.key.stan == m) ≡ b → state_in_role s.role ≡ Some state → state_in_role (cond b (slot_at_stage step s) s).role ≡ Some state
     by_test s here true e told =
         let at : stan ≡ m = sym (found slots 1 stan s numbered here).0 ∙ same_number s.order.key.stan m e in
         by_role s (ap (slot_at slots) (sym at) ∙ here) s.role refl told
     by_test s here false e told = told
 
-    by_slot : (f : Option Slot) → slot_at slots stan ≡ f → option_and_then (λ s. state_in s.role) f ≡ Some state → state_of (slots_at_stage step m slots) stan ≡ Some state
+    by_slot : (f : Option Slot) → slot_at slots stan ≡ f → option_and_then (λ s. state_in_role s.role) f ≡ Some state → state_of (slots_at_stage step m slots) stan ≡ Some state
     by_slot None e told = cc
-    by_slot (Some s) e told = ap (option_and_then (λ (s : Slot). state_in s.role)) (changed-found step m slots stan s e) ∙ by_test s e (s.order.key.stan == m) refl told
+    by_slot (Some s) e told = ap (option_and_then (λ (s : Slot). state_in_role s.role)) (changed-found step m slots stan s e) ∙ by_test s e (s.order.key.stan == m) refl told
 
 -- an answer changes nothing that is closed
-after-stays : (code : ℕ) (stage : Stage) → is_closed (state_by stage) ≡ true → state_by (stage_after code stage) ≡ state_by stage
+after-stays : (code : ℕ) (stage : Stage) → is_closed (state_at_stage stage) ≡ true → state_at_stage (stage_after code stage) ≡ state_at_stage stage
 after-stays code (Waiting n) h = cc
 after-stays code (Reversing u) h = cc
 after-stays code Approved h = refl
 after-stays code (Declined c) h = refl
 after-stays code (Reversed u) h = refl
 
-undone-stays : (code : ℕ) (stage : Stage) → is_closed (state_by stage) ≡ true → state_by (stage_after_undo code stage) ≡ state_by stage
+undone-stays : (code : ℕ) (stage : Stage) → is_closed (state_at_stage stage) ≡ true → state_at_stage (stage_after_undo code stage) ≡ state_at_stage stage
 undone-stays code (Waiting n) h = cc
 undone-stays code (Reversing u) h = cc
 undone-stays code Approved h = refl
@@ -79,15 +79,15 @@ undone-stays code (Reversed u) h = refl
 stays-answered : (slots : List Slot) (key : TxKey) (code : ℕ) → AreNumbered 1 slots → StaysIn slots (slots_after_answer slots key code)
 stays-answered slots key code numbered = by_slot (slot_at slots key.stan)
   where
-    by_role : (role : Role) → StaysIn slots (slots_after_answer_in slots key.stan code role)
+    by_role : (role : Role) → StaysIn slots (slots_after_answer_in_role slots key.stan code role)
     by_role (Transaction stage) = stays-changed (stage_after code) key.stan slots numbered (λ s from here is closed. after-stays code from closed)
     by_role (Reversal k) = stays-changed (stage_after_undo code) k slots numbered (λ s from here is closed. undone-stays code from closed)
 
-    by_test : (s : Slot) (b : Bool) → StaysIn slots (cond b (slots_after_answer_in slots key.stan code s.role) slots)
+    by_test : (s : Slot) (b : Bool) → StaysIn slots (cond b (slots_after_answer_in_role slots key.stan code s.role) slots)
     by_test s true = by_role s.role
     by_test s false = stays-same slots
 
-    by_slot : (f : Option Slot) → StaysIn slots (slots_after_answer_at slots key code f)
+    by_slot : (f : Option Slot) → StaysIn slots (slots_after_answer_of_slot slots key code f)
     by_slot None = stays-same slots
     by_slot (Some s) = by_test s (same_key s.order.key key)
 
@@ -98,7 +98,7 @@ module _ (slots : List Slot) (numbered : AreNumbered 1 slots) where
       stays-changed (λ _. new) s.order.key.stan slots numbered
       (λ x stage there is closed.
       let same : Waiting n ≡ stage = same_stage (Waiting n) stage (sym role ∙ ap (λ (y : Slot). y.role) (some_is s x (sym here ∙ there)) ∙ is) in
-      absurd (never_true (ap (λ g. is_closed (state_by g)) same ∙ closed)))
+      absurd (never_true (ap (λ g. is_closed (state_at_stage g)) same ∙ closed)))
     where
       never_true : false ≡ true → ⊥
       never_true h = cc
@@ -112,10 +112,10 @@ module _ (slots : List Slot) (numbered : AreNumbered 1 slots) where
       by_tests true t h = subst (λ (r : Instruction × List Slot). StaysIn slots r.1) (ok_is (s.order, slots_at_stage (λ _. Waiting 2) s.order.key.stan slots) r h) (open-stays (Waiting 2) s n here role)
       by_tests false true h =
           subst (λ (r : Instruction × List Slot). StaysIn slots r.1) (ok_is (next_reversal slots s.order, slots_with_reversal slots s.order.key.stan (next_reversal slots s.order)) r h)
-          (λ stan state told closed. stays-pushed (slots_at_stage (λ _. Reversing (next_reversal slots s.order)) s.order.key.stan slots) (reversal_for s.order.key.stan (next_reversal slots s.order)) stan state
-          (open-stays (Reversing (next_reversal slots s.order)) s n here role stan state told closed) closed)
+          (λ stan state told closed. stays-pushed (slots_at_stage (λ _. Reversing (next_reversal slots s.order).key.stan) s.order.key.stan slots) (reversal_for s.order.key.stan (next_reversal slots s.order)) stan state
+          (open-stays (Reversing (next_reversal slots s.order).key.stan) s n here role stan state told closed) closed)
       by_tests false false h = absurd (err_not NoMoreTrace r h)
-  asked-stays s (Reversing u) here role r e = subst (λ (r : Instruction × List Slot). StaysIn slots r.1) (ok_is (u, slots) r e) (stays-same slots)
+  asked-stays s (Reversing u) here role r e = subst (λ (r : Instruction × List Slot). StaysIn slots r.1) (ok_is (reversal_under u s.order, slots) r e) (stays-same slots)
   asked-stays s Approved here role r e = absurd (err_not Closed r e)
   asked-stays s (Declined c) here role r e = absurd (err_not Closed r e)
   asked-stays s (Reversed u) here role r e = absurd (err_not Closed r e)

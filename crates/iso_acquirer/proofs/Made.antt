@@ -1,5 +1,5 @@
 -- The orders that an acquirer makes are valid.
-use Rattle.std.proofs.Common.{◌≡◌, ℕ, Bool, true, refl, arith, ap, sym, ◌∙◌, subst, ◌<◌, ◌≤◌, ◌+◌, cond, ◌/◌, ◌%◌}
+use Rattle.std.proofs.Common.{◌≡◌, ℕ, Bool, true, refl, arith, ap, sym, ◌∙◌, subst, ◌≤◌, cond, ◌/◌, ◌%◌}
 use Rattle.std.specs.Prelude.{◌&&◌, ◌||◌, ◌==◌, Option, Some, None, IsSome, nat_le, if◌then◌else◌}
 use Rattle.std.proofs.lemmas.Bool.Decides.{nat_tests}
 use Rattle.std.proofs.lemmas.Grind.{common_steps}
@@ -9,7 +9,7 @@ use Rattle.iso_order.specs.declared.act.Money.{Money}
 use Rattle.iso_order.specs.Pan.{is_pan}
 use Rattle.iso_order.specs.Key.{class_digit, is_valid_key}
 use Rattle.iso_order.specs.Order.{Instruction, is_account, is_currency, has_amount, is_payment, is_valid, is_valid_act}
-use Rattle.iso_acquirer.specs.Acquirer.{IsFair}
+use Rattle.iso_acquirer.specs.Acquirer.{IsFair, reversal_under}
 use Rattle.iso_acquirer.proofs.Keys.{both, both_true, number_self}
 
 -- a test that holds gives what it asks for
@@ -58,13 +58,12 @@ undo_key : (k : TxKey) (stan : ℕ) → is_valid_key k ≡ true → stan ≤ 999
 undo_key k stan h few = grind (arith, nat_tests)
 
 -- the reversal of a transaction can be made
-pub reversal-fits : (o : Instruction) (used : ℕ) → is_valid o ≡ true → o.key.base ≡ 200 → used < 999999 →
-    is_valid (record { key = record { base = 420; stan = used + 1; sent = o.key.sent; acquirer = o.key.acquirer }; act = Undo o.key 0 }) ≡ true
+pub reversal-fits : (o : Instruction) (stan : ℕ) → is_valid o ≡ true → o.key.base ≡ 200 → stan ≤ 999999 → is_valid (reversal_under stan o) ≡ true
 unfolding is_valid
-reversal-fits o used valid base few =
-    let key : TxKey = record { base = 420; stan = used + 1; sent = o.key.sent; acquirer = o.key.acquirer } in
+reversal-fits o stan valid base few =
+    let key : TxKey = record { base = 420; stan = stan; sent = o.key.sent; acquirer = o.key.acquirer } in
     let original : is_valid_key o.key ≡ true = key-valid o valid in
-    both_true (is_valid_key key) _ (undo_key o.key (used + 1) original (omega arith))
+    both_true (is_valid_key key) _ (undo_key o.key stan original few)
     (both_true (is_valid_key o.key && is_payment o.key && (o.key.acquirer == o.key.acquirer)) (nat_le 0 999999999999)
     (both_true (is_valid_key o.key && is_payment o.key) (o.key.acquirer == o.key.acquirer)
     (both_true (is_valid_key o.key) (is_payment o.key) original (payment_of o.key base)) (number_self o.key.acquirer o.key.acquirer refl))

@@ -24,7 +24,7 @@ use Rattle.iso_acquirer.specs.declared.slot.Role.{Role}
 use Rattle.iso_acquirer.specs.declared.slot.Role.TheVariants.{Transaction, Reversal}
 use Rattle.iso_acquirer.specs.declared.slot.Stage.{Stage}
 use Rattle.iso_acquirer.specs.declared.slot.Stage.TheVariants.{Waiting, Reversing, Approved, Declined, Reversed}
-use Rattle.iso_acquirer.specs.Acquirer.{slot_at, state_by, state_in}
+use Rattle.iso_acquirer.specs.Acquirer.{slot_at, state_at_stage, state_in_role}
 use Rattle.iso_acquirer.specs.World.{World}
 use Rattle.iso_acquirer.specs.Agreed.{IsTransaction, IsRole, IsKnown, IsSound}
 use Rattle.iso_acquirer.specs.Agreement.{is_closed, is_state_approved, debit_amount, approved_total, IsSettled, BooksAgree}
@@ -37,7 +37,7 @@ use Rattle.iso_acquirer.proofs.Sums.{sum-all, sum-none, all-map, all-slots, all-
 
 -- what the acquirer's books count of an order
 abbrev approved_in : AccountNumber → Slot → ℕ
-approved_in pan s = cond (is_state_approved (state_in s.role)) (debit_amount pan s.order.act) 0
+approved_in pan s = cond (is_state_approved (state_in_role s.role)) (debit_amount pan s.order.act) 0
 
 zero_cond : (b : Bool) (n : ℕ) → n ≡ 0 → cond b n 0 ≡ 0
 zero_cond true n h = h
@@ -97,14 +97,14 @@ module _ (of_orders : EntriesAreOfOrders) (entered_has : EnteredHasEntry) (weigh
 
   -- one that doesn't stand
   of_fallen : (e : Entry) (s : Slot) (m : Money) → slot_at w.acquirer.slots e.order.key.stan ≡ Some s → s.order ≡ e.order → s.order.act ≡ Debit m → s.order.key.base ≡ 200 →
-      entry_at (journal w.issuer) e.order.key ≡ Some e → NeverStands w.issuer.accounts w.issuer.orders s.order.key → is_state_approved (state_in s.role) ≡ false → Counts w pan e
+      entry_at (journal w.issuer) e.order.key ≡ Some e → NeverStands w.issuer.accounts w.issuer.orders s.order.key → is_state_approved (state_in_role s.role) ≡ false → Counts w pan e
   of_fallen e s m here same act base at stands_never off =
       of_debit e s m 0 here same act base
       (nothing (journal w.issuer) e (never_now w.issuer.accounts w.issuer.orders s.order.key e stands_never sound.distinct (ap (λ (o : Instruction). entry_at (journal w.issuer) o.key) same ∙ at)))
       (zero_cond (same_pan m.pan pan) 0 refl ∙ sym (ap (λ b. cond b (debit_amount pan s.order.act) 0) off))
 
   of_stage : (e : Entry) (s : Slot) → entry_at (journal w.issuer) e.order.key ≡ Some e → slot_at w.acquirer.slots e.order.key.stan ≡ Some s → s.order ≡ e.order →
-      (stage : Stage) → s.role ≡ Transaction stage → is_closed (state_by stage) ≡ true → IsTransaction (journal w.issuer) w.acquirer.slots s.order stage → Counts w pan e
+      (stage : Stage) → s.role ≡ Transaction stage → is_closed (state_at_stage stage) ≡ true → IsTransaction (journal w.issuer) w.acquirer.slots s.order stage → Counts w pan e
   of_stage e s at here same (Waiting n) role closed t = cc
   of_stage e s at here same (Reversing u) role closed t = cc
   of_stage e s at here same Approved role closed t =
@@ -115,23 +115,23 @@ module _ (of_orders : EntriesAreOfOrders) (entered_has : EnteredHasEntry) (weigh
       let two : class_digit g.entry.order.key ≡ 2 = class_two g.entry.order.key (ap (λ (o : Instruction). o.key.base) g.same ∙ t.base) in
       of_debit e s t.money t.money.amount here same t.debit t.base
       (ap (weight (journal w.issuer)) (sym entry) ∙ weighs (journal w.issuer) g.entry two (debit_effect g.entry.order t.money act_is) g.granted g.free ∙ ap effect_amount (debit_taken g.entry.order t.money act_is two))
-      (sym (ap (λ r. cond (is_state_approved (state_in r)) (debit_amount pan s.order.act) 0) role ∙ ap (debit_amount pan) t.debit))
+      (sym (ap (λ r. cond (is_state_approved (state_in_role r)) (debit_amount pan s.order.act) 0) role ∙ ap (debit_amount pan) t.debit))
   of_stage e s at here same (Declined c) role closed t =
       of_fallen e s t.money here same t.debit t.base at
-      (declined-never w.acquirer.id w.acquirer.slots w.sent w.given w.issuer.accounts w.issuer.orders sound.agreed no_more falls e.order.key.stan s c here role) (ap (λ r. is_state_approved (state_in r)) role)
+      (declined-never w.acquirer.id w.acquirer.slots w.sent w.given w.issuer.accounts w.issuer.orders sound.agreed no_more falls e.order.key.stan s c here role) (ap (λ r. is_state_approved (state_in_role r)) role)
   of_stage e s at here same (Reversed u) role closed t =
       of_fallen e s t.money here same t.debit t.base at
-      (reversed-never w.acquirer.id w.acquirer.slots w.sent w.given w.issuer.accounts w.issuer.orders sound.agreed never e.order.key.stan s u here role) (ap (λ r. is_state_approved (state_in r)) role)
+      (reversed-never w.acquirer.id w.acquirer.slots w.sent w.given w.issuer.accounts w.issuer.orders sound.agreed never e.order.key.stan s u here role) (ap (λ r. is_state_approved (state_in_role r)) role)
 
   of_role : (e : Entry) (s : Slot) → entry_at (journal w.issuer) e.order.key ≡ Some e → slot_at w.acquirer.slots e.order.key.stan ≡ Some s → s.order ≡ e.order →
       (role : Role) → s.role ≡ role → IsRole (journal w.issuer) w.acquirer.slots s.order role → Counts w pan e
   of_role e s at here same (Transaction stage) role t =
       of_stage e s at here same stage role
-      (settled.closed e.order.key.stan (state_by stage) (ap (option_and_then (λ (s : Slot). state_in s.role)) here ∙ ap state_in role)) t
+      (settled.closed e.order.key.stan (state_at_stage stage) (ap (option_and_then (λ (s : Slot). state_in_role s.role)) here ∙ ap state_in_role role)) t
   of_role e s at here same (Reversal k) role t =
       let none : effect_of e.order ≡ None = ap (effect_by e.order.key) (ap (λ (o : Instruction). o.act) (sym same) ∙ t.names) in
       record {
-        taken = ap (λ f. share Debited pan f (weight (journal w.issuer) e)) none ∙ sym (ap (slot_sum (approved_in pan)) here ∙ ap (λ r. cond (is_state_approved (state_in r)) (debit_amount pan s.order.act) 0) role);
+        taken = ap (λ f. share Debited pan f (weight (journal w.issuer) e)) none ∙ sym (ap (slot_sum (approved_in pan)) here ∙ ap (λ r. cond (is_state_approved (state_in_role r)) (debit_amount pan s.order.act) 0) role);
         given = ap (λ f. share Credited pan f (weight (journal w.issuer) e)) none;
         held = ap (λ f. share Held pan f (weight (journal w.issuer) e)) none;
       }
@@ -144,7 +144,7 @@ module _ (of_orders : EntriesAreOfOrders) (entered_has : EnteredHasEntry) (weigh
 
   -- what is approved is entered
   entered_amount : (s : Slot) → (role : Role) → s.role ≡ role → IsRole (journal w.issuer) w.acquirer.slots s.order role →
-      cond (is_entered (map (λ e. e.order) (journal w.issuer)) s.order.key) (cond (is_state_approved (state_in role)) (debit_amount pan s.order.act) 0) 0 ≡ cond (is_state_approved (state_in role)) (debit_amount pan s.order.act) 0
+      cond (is_entered (map (λ e. e.order) (journal w.issuer)) s.order.key) (cond (is_state_approved (state_in_role role)) (debit_amount pan s.order.act) 0) 0 ≡ cond (is_state_approved (state_in_role role)) (debit_amount pan s.order.act) 0
   entered_amount s (Transaction Approved) role t =
       let kept = kept_entry (journal w.issuer) s.order.key 0 t.held in
       ap (λ b. cond b (debit_amount pan s.order.act) 0) (ap (λ os. is_entered os s.order.key) orders_are ∙ entered_has w.issuer.accounts w.issuer.orders s.order.key ∙ ap is_some kept.1)

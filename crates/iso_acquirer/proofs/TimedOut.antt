@@ -11,7 +11,7 @@ use Rattle.iso_acquirer.specs.declared.slot.Role.{Role}
 use Rattle.iso_acquirer.specs.declared.slot.Role.TheVariants.{Transaction, Reversal}
 use Rattle.iso_acquirer.specs.declared.slot.Stage.{Stage}
 use Rattle.iso_acquirer.specs.declared.slot.Stage.TheVariants.{Waiting, Reversing, Approved, Declined, Reversed}
-use Rattle.iso_acquirer.specs.Acquirer.{slot_at, undo_of, slots_at_stage, timeout, timeout_of_slot, timeout_in_role, timeout_at_stage, next_reversal, slots_with_reversal}
+use Rattle.iso_acquirer.specs.Acquirer.{slot_at, undo_of, reversal_under, slots_at_stage, timeout, timeout_of_slot, timeout_in_role, timeout_at_stage, next_reversal, slots_with_reversal}
 use Rattle.iso_acquirer.specs.Agreed.{IsAgreed}
 use Rattle.iso_acquirer.proofs.Keys.{some_is, none_is_not}
 use Rattle.iso_acquirer.proofs.Numbered.{found}
@@ -34,7 +34,7 @@ module _ (id : ℕ) (slots : List Slot) (sent : List Instruction) (given : List 
   again s n here role =
       agreed-sent id (slots_at_stage (λ _. Waiting 2) s.order.key.stan slots) sent given entries s.order
       (agreed-changed id slots sent given entries (λ _. Waiting 2) s.order.key.stan w
-      (λ x stage v there is undo. absurd (none_is_not v (ap undo_of (same_stage (Waiting n) stage (sym role ∙ ap (λ (y : Slot). y.role) (some_is s x (sym here ∙ there)) ∙ is)) ∙ undo)))
+      (λ x stage v there is undo. absurd (none_is_not v (ap (undo_of x.order) (same_stage (Waiting n) stage (sym role ∙ ap (λ (y : Slot). y.role) (some_is s x (sym here ∙ there)) ∙ is)) ∙ undo)))
       (λ x stage there is h. tt) (λ x stage v there is undo. absurd (none_is_not v undo)))
       (order-changed (λ _. Waiting 2) s.order.key.stan slots s.order.key.stan ∙ ap (option_map (λ (x : Slot). x.order)) here)
 
@@ -50,7 +50,7 @@ module _ (id : ℕ) (slots : List Slot) (sent : List Instruction) (given : List 
           (agreed-reversing id slots sent given entries s.order.key.stan n s (next_reversal slots s.order) w here role refl (w.slots_hold s.order.key.stan s here).own refl)
       by_tests false false h = absurd (err_not NoMoreTrace r h)
   asked-by s (Reversing u) here role r e =
-      subst IsSent (ok_is (u, slots) r e) (agreed-sent id slots sent given entries u w ((transaction_at id slots sent given entries w s.order.key.stan s (Reversing u) here role).undone u refl))
+      subst IsSent (ok_is (reversal_under u s.order, slots) r e) (agreed-sent id slots sent given entries (reversal_under u s.order) w ((transaction_at id slots sent given entries w s.order.key.stan s (Reversing u) here role).undone (reversal_under u s.order) refl))
   asked-by s Approved here role r e = absurd (err_not Closed r e)
   asked-by s (Declined c) here role r e = absurd (err_not Closed r e)
   asked-by s (Reversed u) here role r e = absurd (err_not Closed r e)

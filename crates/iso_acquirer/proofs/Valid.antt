@@ -14,7 +14,7 @@ use Rattle.iso_acquirer.specs.declared.slot.Role.{Role}
 use Rattle.iso_acquirer.specs.declared.slot.Role.TheVariants.{Transaction, Reversal}
 use Rattle.iso_acquirer.specs.declared.slot.Stage.{Stage}
 use Rattle.iso_acquirer.specs.declared.slot.Stage.TheVariants.{Waiting, Reversing, Approved, Declined, Reversed}
-use Rattle.iso_acquirer.specs.Acquirer.{Party, slot_at, order_at, slots_at_stage, stage_after, stage_after_undo, slots_after_answer, slots_after_answer_in, slots_after_answer_at, timeout, timeout_of_slot, timeout_in_role, timeout_at_stage, next_reversal, reversal_for, slots_with, slots_with_reversal, transaction_of, debit_of, IsFair}
+use Rattle.iso_acquirer.specs.Acquirer.{Party, slot_at, order_at, slots_at_stage, stage_after, stage_after_undo, slots_after_answer, slots_after_answer_in_role, slots_after_answer_of_slot, timeout, timeout_of_slot, timeout_in_role, timeout_at_stage, reversal_under, next_reversal, reversal_for, slots_with, slots_with_reversal, transaction_of, debit_of, IsFair}
 use Rattle.iso_acquirer.proofs.Lists.{all-push}
 use Rattle.iso_acquirer.proofs.Numbered.{all-changed, all-found}
 use Rattle.iso_acquirer.proofs.Made.{debit-valid, reversal-fits}
@@ -51,15 +51,15 @@ valid-changed step m slots all = all-changed IsValidSlot step m slots (λ s vali
 pub valid-answered : (slots : List Slot) (key : TxKey) (code : ℕ) → AreValid slots → AreValid (slots_after_answer slots key code)
 valid-answered slots key code all = by_slot (slot_at slots key.stan)
   where
-    by_role : (role : Role) → AreValid (slots_after_answer_in slots key.stan code role)
+    by_role : (role : Role) → AreValid (slots_after_answer_in_role slots key.stan code role)
     by_role (Transaction stage) = valid-changed (stage_after code) key.stan slots all
     by_role (Reversal n) = valid-changed (stage_after_undo code) n slots all
 
-    by_test : (s : Slot) (b : Bool) → AreValid (cond b (slots_after_answer_in slots key.stan code s.role) slots)
+    by_test : (s : Slot) (b : Bool) → AreValid (cond b (slots_after_answer_in_role slots key.stan code s.role) slots)
     by_test s true = by_role s.role
     by_test s false = all
 
-    by_slot : (f : Option Slot) → AreValid (slots_after_answer_at slots key code f)
+    by_slot : (f : Option Slot) → AreValid (slots_after_answer_of_slot slots key code f)
     by_slot None = all
     by_slot (Some s) = by_test s (same_key s.order.key key)
 
@@ -79,10 +79,10 @@ module _ (slots : List Slot) (all : AreValid slots) (base : (n : ℕ) (s : Slot)
       by_tests false true k h =
           let u = next_reversal slots s.order in
           subst (λ (r : Instruction × List Slot). AreValid r.1) (ok_is (u, slots_with_reversal slots s.order.key.stan u) r h)
-          (all-push IsValidSlot (slots_at_stage (λ _. Reversing u) s.order.key.stan slots) (reversal_for s.order.key.stan u) (valid-changed (λ _. Reversing u) s.order.key.stan slots all)
-          (reversal-fits s.order (length slots) (all-found IsValidSlot slots m s all here) (base m s (Waiting n) here role) (below k)))
+          (all-push IsValidSlot (slots_at_stage (λ _. Reversing u.key.stan) s.order.key.stan slots) (reversal_for s.order.key.stan u) (valid-changed (λ _. Reversing u.key.stan) s.order.key.stan slots all)
+          (reversal-fits s.order (length slots + 1) (all-found IsValidSlot slots m s all here) (base m s (Waiting n) here role) (omega (arith, below k))))
       by_tests false false k h = absurd (err_not NoMoreTrace r h)
-  asked-by m s (Reversing u) here role r e = subst (λ (r : Instruction × List Slot). AreValid r.1) (ok_is (u, slots) r e) all
+  asked-by m s (Reversing u) here role r e = subst (λ (r : Instruction × List Slot). AreValid r.1) (ok_is (reversal_under u s.order, slots) r e) all
   asked-by m s Approved here role r e = absurd (err_not Closed r e)
   asked-by m s (Declined c) here role r e = absurd (err_not Closed r e)
   asked-by m s (Reversed u) here role r e = absurd (err_not Closed r e)

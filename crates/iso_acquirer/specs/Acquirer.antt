@@ -33,29 +33,36 @@ order_at slots stan = option_map (λ s. s.order) (slot_at slots stan)
 -- ---- states
 
 -- the state of a transaction at a stage
-abbrev pub state_by : Stage → State
-state_by (stage.Waiting n) = Waiting n
-state_by (stage.Reversing u) = Reversing
-state_by stage.Approved = Approved
-state_by (stage.Declined c) = Declined c
-state_by (stage.Reversed u) = Reversed
+abbrev pub state_at_stage : Stage → State
+state_at_stage (stage.Waiting n) = Waiting n
+state_at_stage (stage.Reversing n) = Reversing
+state_at_stage stage.Approved = Approved
+state_at_stage (stage.Declined c) = Declined c
+state_at_stage (stage.Reversed n) = Reversed
 
 -- a reversal is no transaction
-abbrev pub state_in : Role → Option State
-state_in (Transaction stage) = Some (state_by stage)
-state_in (Reversal stan) = None
+abbrev pub state_in_role : Role → Option State
+state_in_role (Transaction stage) = Some (state_at_stage stage)
+state_in_role (Reversal stan) = None
 
 -- the state of the transaction of that trace number, where there is one
 abbrev pub state_of : List Slot → ℕ → Option State
-state_of slots stan = option_and_then (λ s. state_in s.role) (slot_at slots stan)
+state_of slots stan = option_and_then (λ s. state_in_role s.role) (slot_at slots stan)
 
--- the reversal of a transaction, where there is one
-abbrev pub undo_of : Stage → Option Instruction
-undo_of (stage.Waiting n) = None
-undo_of (stage.Reversing u) = Some u
-undo_of stage.Approved = None
-undo_of (stage.Declined c) = None
-undo_of (stage.Reversed u) = Some u
+-- the reversal of an order (message type 0420), under that trace number; it leaves nothing
+abbrev pub reversal_under : ℕ → Instruction → Instruction
+reversal_under stan o = record {
+  key = record { base = 420; stan = stan; sent = o.key.sent; acquirer = o.key.acquirer };
+  act = Undo o.key 0;
+}
+
+-- the reversal of a transaction's order, where there is one
+abbrev pub undo_of : Instruction → Stage → Option Instruction
+undo_of o (stage.Waiting n) = None
+undo_of o (stage.Reversing n) = Some (reversal_under n o)
+undo_of o stage.Approved = None
+undo_of o (stage.Declined c) = None
+undo_of o (stage.Reversed n) = Some (reversal_under n o)
 
 -- ---- changes
 
@@ -103,22 +110,14 @@ pub record IsFair (amount : ℕ) (currency : List ℕ) (sent : ℕ) : Type 0 whe
 
 -- ---- timeout
 
--- the reversal of an order (message type 0420), under the next trace number; it leaves nothing
+-- the reversal of an order, under the next trace number
 abbrev pub next_reversal : List Slot → Instruction → Instruction
-next_reversal slots o = record {
-  key = record {
-    base = 420;
-    stan = length slots + 1;
-    sent = o.key.sent;
-    acquirer = o.key.acquirer;
-  };
-  act = Undo o.key 0;
-}
+next_reversal slots o = reversal_under (length slots + 1) o
 
 -- the transaction is reversed, by an order that is made
 abbrev pub slots_with_reversal : List Slot → ℕ → Instruction → List Slot
 slots_with_reversal slots stan undo =
-    slots_at_stage (λ _. stage.Reversing undo) stan slots ++ reversal_for stan undo ∷ []
+    slots_at_stage (λ _. stage.Reversing undo.key.stan) stan slots ++ reversal_for stan undo ∷ []
 
 -- the order that is sent, and what is kept: the order again, after the second time its reversal, and then that again
 abbrev pub timeout_at_stage : List Slot → Instruction → Stage
@@ -128,10 +127,10 @@ timeout_at_stage slots o (stage.Waiting n) =
     else if nat_lt (length slots) 999999
     then Ok (next_reversal slots o, slots_with_reversal slots o.key.stan (next_reversal slots o))
     else Err NoMoreTrace
-timeout_at_stage slots o (stage.Reversing u) = Ok (u, slots)
+timeout_at_stage slots o (stage.Reversing n) = Ok (reversal_under n o, slots)
 timeout_at_stage slots o stage.Approved = Err Closed
 timeout_at_stage slots o (stage.Declined c) = Err Closed
-timeout_at_stage slots o (stage.Reversed u) = Err Closed
+timeout_at_stage slots o (stage.Reversed n) = Err Closed
 
 -- the same by what the order is for: a transaction is at a stage; a reversal doesn't wait by itself
 abbrev pub timeout_in_role : List Slot → Instruction → Role
@@ -159,33 +158,35 @@ abbrev pub stage_after : ℕ → Stage → Stage
 stage_after code (stage.Waiting n) = if code == approved then stage.Approved
     else (if (code == duplicate_transmission) || (code == system_malfunction) then stage.Waiting n
     else stage.Declined code)
-stage_after code (stage.Reversing u) = stage.Reversing u
+stage_after code (stage.Reversing n) = stage.Reversing n
 stage_after code stage.Approved = stage.Approved
 stage_after code (stage.Declined c) = stage.Declined c
-stage_after code (stage.Reversed u) = stage.Reversed u
+stage_after code (stage.Reversed n) = stage.Reversed n
 
 -- the stage after an answer to its reversal
 abbrev pub stage_after_undo : ℕ → Stage → Stage
 stage_after_undo code (stage.Waiting n) = stage.Waiting n
-stage_after_undo code (stage.Reversing u) =
-    if code == 0 then stage.Reversed u else stage.Reversing u
+stage_after_undo code (stage.Reversing n) =
+    if code == 0 then stage.Reversed n else stage.Reversing n
 stage_after_undo code stage.Approved = stage.Approved
 stage_after_undo code (stage.Declined c) = stage.Declined c
-stage_after_undo code (stage.Reversed u) = stage.Reversed u
+stage_after_undo code (stage.Reversed n) = stage.Reversed n
 
 -- an answer comes: to a transaction's order, or to the reversal of a transaction
-abbrev pub slots_after_answer_in : List Slot → ℕ → ℕ → Role → List Slot
-slots_after_answer_in slots stan code (Transaction stage) =
+abbrev pub slots_after_answer_in_role : List Slot → ℕ → ℕ → Role → List Slot
+slots_after_answer_in_role slots stan code (Transaction stage) =
     slots_at_stage (stage_after code) stan slots
-slots_after_answer_in slots stan code (Reversal original) =
+slots_after_answer_in_role slots stan code (Reversal original) =
     slots_at_stage (stage_after_undo code) original slots
 
 -- an answer counts only where the order of its trace number has its key
-abbrev pub slots_after_answer_at : List Slot → TxKey → ℕ → Option Slot → List Slot
-slots_after_answer_at slots key code None = slots
-slots_after_answer_at slots key code (Some s) =
-    if same_key s.order.key key then slots_after_answer_in slots key.stan code s.role else slots
+abbrev pub slots_after_answer_of_slot : List Slot → TxKey → ℕ → Option Slot → List Slot
+slots_after_answer_of_slot slots key code None = slots
+slots_after_answer_of_slot slots key code (Some s) =
+    if same_key s.order.key key then slots_after_answer_in_role slots key.stan code s.role
+    else slots
 
 -- an answer to any other key changes nothing
 abbrev pub slots_after_answer : List Slot → TxKey → ℕ → List Slot
-slots_after_answer slots key code = slots_after_answer_at slots key code (slot_at slots key.stan)
+slots_after_answer slots key code =
+    slots_after_answer_of_slot slots key code (slot_at slots key.stan)

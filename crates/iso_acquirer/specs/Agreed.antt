@@ -31,10 +31,10 @@ code_at entries key = option_map (λ a. a.code) (answer_at entries key)
 -- a transaction's stage, against the issuer's entries
 abbrev pub IsStageOf : List Entry → TxKey → Stage → Type 0
 IsStageOf entries key (Waiting n) = Unit {0}
-IsStageOf entries key (Reversing u) = Unit {0}
+IsStageOf entries key (Reversing n) = Unit {0}
 IsStageOf entries key Approved = code_at entries key ≡ Some 0
 IsStageOf entries key (Declined c) = (code_at entries key ≡ Some c) × (c ≢ 0)
-IsStageOf entries key (Reversed u) = is_reversed entries key ≡ true
+IsStageOf entries key (Reversed n) = is_reversed entries key ≡ true
 
 -- a transaction's order is a debit of class 2, and its reversal, where it has one, is made
 pub record IsTransaction (entries : List Entry) (slots : List Slot) (o : Instruction)
@@ -43,7 +43,7 @@ pub record IsTransaction (entries : List Entry) (slots : List Slot) (o : Instruc
   pub money : Money
   pub debit : o.act ≡ Debit money
   pub held : IsStageOf entries o.key stage
-  pub undone : (u : Instruction) → undo_of stage ≡ Some u → order_at slots u.key.stan ≡ Some u
+  pub undone : (u : Instruction) → undo_of o stage ≡ Some u → order_at slots u.key.stan ≡ Some u
 
 -- a reversal is that of a transaction, and leaves nothing of it
 pub record IsReversal (slots : List Slot) (stan : ℕ) (undo : Instruction) : Type 0 where
@@ -51,7 +51,7 @@ pub record IsReversal (slots : List Slot) (stan : ℕ) (undo : Instruction) : Ty
   pub stage : Stage
   pub found : slot_at slots stan ≡ Some original
   pub transaction : original.role ≡ Transaction stage
-  pub kept : undo_of stage ≡ Some undo
+  pub kept : undo_of original.order stage ≡ Some undo
   pub names : undo.act ≡ Undo original.order.key 0
 
 -- the order is what its role says: a transaction's, or the reversal of one

@@ -14,7 +14,7 @@ use Rattle.iso_issuer.specs.StandingLaws.{NeverStands}
 use Rattle.iso_acquirer.specs.declared.slot.Slot.{Slot}
 use Rattle.iso_acquirer.specs.declared.state.State.{State}
 use Rattle.iso_acquirer.specs.declared.state.State.TheVariants.{Waiting, Reversing, Approved, Declined, Reversed}
-use Rattle.iso_acquirer.specs.Acquirer.{order_at, state_in, state_of}
+use Rattle.iso_acquirer.specs.Acquirer.{order_at, state_in_role, state_of}
 use Rattle.iso_acquirer.specs.World.{World}
 
 -- ---- each transaction
@@ -81,7 +81,8 @@ is_state_approved None = false
 -- the amounts of the approved debits of the account, added up
 abbrev pub approved_total : AccountNumber → List Slot → ℕ
 approved_total pan slots = sum_by
-    (λ s. if is_state_approved (state_in s.role) then debit_amount pan s.order.act else 0) slots
+    (λ s. if is_state_approved (state_in_role s.role) then debit_amount pan s.order.act else 0)
+    slots
 
 -- all transactions are closed, and no order of others is entered
 pub record IsSettled (w : World) : Type 0 where

@@ -17,10 +17,10 @@ AreNumbered n (s ∷ ss) = (s.order.key.stan ≡ n) × AreNumbered (n + 1) ss
 -- how many reversals of a transaction may still be made: one or none
 abbrev pub reversals_at : Stage → ℕ
 reversals_at (Waiting n) = 1
-reversals_at (Reversing u) = 0
+reversals_at (Reversing m) = 0
 reversals_at Approved = 0
 reversals_at (Declined c) = 0
-reversals_at (Reversed u) = 0
+reversals_at (Reversed m) = 0
 
 -- a reversal isn't reversed
 abbrev pub reversals_of : Role → ℕ
@@ -31,9 +31,17 @@ reversals_of (Reversal stan) = 0
 abbrev pub reversals_left : List Slot → ℕ
 reversals_left slots = sum_by (λ s. reversals_of s.role) slots
 
--- a transaction's order is a request of class 2
+-- the trace number of a reversal that may be sent again has at most six digits
+abbrev pub IsTraced : Stage → Type 0
+IsTraced (Waiting n) = Unit {0}
+IsTraced (Reversing m) = m ≤ 999999
+IsTraced Approved = Unit {0}
+IsTraced (Declined c) = Unit {0}
+IsTraced (Reversed m) = Unit {0}
+
+-- a transaction's order is a request of class 2, and its reversal has a trace number
 abbrev pub IsRequest : Role → Instruction → Type 0
-IsRequest (Transaction stage) o = o.key.base ≡ 200
+IsRequest (Transaction stage) o = (o.key.base ≡ 200) × IsTraced stage
 IsRequest (Reversal stan) o = Unit {0}
 
 -- the numbers are in a row and few, and there is room for each reversal that may come

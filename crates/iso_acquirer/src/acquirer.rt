@@ -1,19 +1,19 @@
 //! The acquirer.
 
-ghost use Rattle.std.specs.Prelude.{◌≡◌, ◌≢◌, ◌≤◌, ◌<◌, ◌↔◌, []};
+ghost use Rattle.std.specs.Prelude.{◌≡◌, ◌≢◌, ◌≤◌, ◌<◌, ◌↔◌, ◌+◌, []};
 ghost use Rattle.std.specs.Prelude.{IsTrue, length, true, Ok, Err, Some, IfSome, List, slice_get, IfOk, OnOk, OnErr, IfErr};
 ghost use Rattle.iso_order.specs.Key.{is_valid_key};
 ghost use Rattle.iso_order.specs.declared.act.Act.TheVariants.{Debit};
 ghost use Rattle.iso_acquirer.specs.declared.fault.AcqFault.TheVariants.{NoMoreTrace, Memory};
 ghost use Rattle.iso_acquirer.specs.declared.slot.Role.TheVariants.{Transaction};
 ghost use Rattle.iso_acquirer.specs.Acquirer.{slot_at, state_of, on_stage, slots_at_stage, slots_with};
-ghost use Rattle.iso_acquirer.specs.Room.{AreNumbered, reversals_at, reversals_of, IsRequest};
-ghost use Rattle.iso_acquirer.specs.Acquirer.{debit_of, IsFair, next_reversal, slots_with_reversal, timeout, timeout_at_stage, timeout_fault, slots_after_answer_in};
+ghost use Rattle.iso_acquirer.specs.Room.{AreNumbered, reversals_at, reversals_of, IsRequest, IsTraced};
+ghost use Rattle.iso_acquirer.specs.Acquirer.{debit_of, IsFair, reversal_under, next_reversal, slots_with_reversal, timeout, timeout_at_stage, timeout_fault, slots_after_answer_in_role};
 ghost use Rattle.iso_acquirer.specs.Acquirer.{stage_after, stage_after_undo, slots_after_answer};
 
 use crate::fault::AcqFault;
 use crate::slot::{Role, Slot, Stage};
-use crate::stage::{reversals_at, reversals_of, stage_after, stage_after_undo, state_by};
+use crate::stage::{reversals_at, reversals_of, stage_after, stage_after_undo, state_at_stage};
 use crate::state::State;
 use iso_order::{Act, MOST_STAN, Money, Order, Pan, TxKey};
 use std::alloc::Global;
@@ -74,6 +74,19 @@ fn put_stage(slots: &mut [Slot], slot: &Slot, stage: Stage)
     };
 }
 
+/// The key of a request, under the next trace number where so many are used.
+fn request_key(used: usize, sent: u64, acquirer: u64) -> TxKey
+    requires few { used < 999999 }
+    ensures { result ≡ record { base = 200; stan = used + 1; sent = sent; acquirer = acquirer } }
+{
+    TxKey {
+        base: 200,
+        stan: used as u32 + 1,
+        sent,
+        acquirer,
+    }
+}
+
 /// A debit, under a key of class 2.
 fn debit(key: TxKey, money: Money) -> Order
     requires key { is_valid_key key ≡ true }
@@ -86,16 +99,16 @@ fn debit(key: TxKey, money: Money) -> Order
     Order::new(key, Act::Debit(money)).unwrap()
 }
 
-/// The reversal of a transaction's order, under the next trace number.
-fn next_reversal(used: usize, order: Order) -> Order
-    requires few { used < 999999 }
+/// The reversal of a transaction's order, under that trace number.
+fn reversal_under(stan: u32, order: Order) -> Order
+    requires few { stan ≤ 999999 }
     requires base { order.key.base ≡ 200 }
-    ensures { (slots : List Slot) → length slots ≡ used → result ≡ next_reversal slots order }
+    ensures { result ≡ reversal_under stan order }
 {
     let original = order.key();
     let key = TxKey {
         base: 420,
-        stan: used as u32 + 1,
+        stan,
         sent: original.sent,
         acquirer: original.acquirer,
     };
@@ -141,7 +154,7 @@ impl Acquirer {
     {
         let slot = slot_at(&self.slots, stan)?;
         match slot.role {
-            Role::Transaction(stage) => Some(state_by(stage)),
+            Role::Transaction(stage) => Some(state_at_stage(stage)),
             Role::Reversal(_) => None,
         }
     }
@@ -178,12 +191,7 @@ impl Acquirer {
             return Err(AcqFault::NoMoreTrace);
         }
         self.slots.reserve(self.reversals_left + 2)?;
-        let key = TxKey {
-            base: 200,
-            stan: used as u32 + 1,
-            sent,
-            acquirer: self.id,
-        };
+        let key = request_key(used, sent, self.id);
         let money = Money {
             pan,
             amount,
@@ -203,6 +211,7 @@ impl Acquirer {
         requires there { slot_at self.old.slots slot.now.order.key.stan ≡ Some slot.now }
         requires fewer { reversals_at stage ≤ reversals_of slot.now.role }
         requires transaction { (before : Stage) × (slot.now.role ≡ Transaction before) }
+        requires traced { IsTraced stage }
         ensures { (step : Stage → Stage) → on_stage step slot.now.role ≡ Transaction stage →
             self.new ≡
             record self.old { slots = slots_at_stage step slot.now.order.key.stan self.old.slots } }
@@ -231,8 +240,9 @@ impl Acquirer {
         if used >= MOST_STAN as usize {
             return Err(AcqFault::NoMoreTrace);
         }
-        let undo = next_reversal(used, slot.order);
-        put_stage(&mut self.slots, slot, Stage::Reversing(undo));
+        let stan = used as u32 + 1;
+        let undo = reversal_under(stan, slot.order);
+        put_stage(&mut self.slots, slot, Stage::Reversing(stan));
         self.slots.push_reserved(Slot {
             order: undo,
             role: Role::Reversal(slot.order.key().stan),
@@ -289,6 +299,7 @@ impl Acquirer {
     fn timeout_at_stage(&mut self, slot: &Slot, stage: Stage) -> Result<Order, AcqFault>
         requires there { slot_at self.old.slots slot.now.order.key.stan ≡ Some slot.now }
         requires transaction { slot.now.role ≡ Transaction stage }
+        requires request { IsRequest slot.now.role slot.now.order }
         ensures ok { IfOk result (λ order.
             timeout_at_stage self.old.slots slot.now.order stage ≡ Ok (order, self.new.slots)) }
         ensures own { self.new.id ≡ self.old.id }
@@ -305,7 +316,7 @@ impl Acquirer {
                     self.reverse(slot)
                 }
             }
-            Stage::Reversing(undo) => Ok(undo),
+            Stage::Reversing(undo) => Ok(reversal_under(undo, slot.order)),
             Stage::Approved | Stage::Declined(_) | Stage::Reversed(_) => Err(AcqFault::Closed),
         }
     }
@@ -327,8 +338,10 @@ impl Acquirer {
 
     fn answer_slot(&mut self, slot: &Slot, code: u8)
         requires there { slot_at self.old.slots slot.now.order.key.stan ≡ Some slot.now }
+        requires request { IsRequest slot.now.role slot.now.order }
         ensures { self.new ≡ record self.old {
-          slots = slots_after_answer_in self.old.slots slot.now.order.key.stan code slot.now.role;
+          slots =
+              slots_after_answer_in_role self.old.slots slot.now.order.key.stan code slot.now.role;
         } }
     {
         match slot.role {

@@ -7,14 +7,14 @@ use iso_order::Order;
 pub enum Stage {
     /// Its order was sent so many times, and no answer decided it.
     Waiting(u8),
-    /// This reversal of it was sent, and no answer granted it.
-    Reversing(Order),
+    /// Its reversal, of this trace number, was sent, and no answer granted it.
+    Reversing(u32),
     /// It was granted.
     Approved,
     /// It was refused with that code.
     Declined(u8),
-    /// This reversal of it was granted.
-    Reversed(Order),
+    /// Its reversal, of this trace number, was granted.
+    Reversed(u32),
 }
 
 /// What an order of an acquirer is.

@@ -1,7 +1,7 @@
 //! The stages of a transaction: what is told of them, what an answer brings, and which reversals are left.
 
 ghost use Rattle.std.specs.Prelude.{◌≡◌};
-ghost use Rattle.iso_acquirer.specs.Acquirer.{state_by, stage_after, stage_after_undo};
+ghost use Rattle.iso_acquirer.specs.Acquirer.{state_at_stage, stage_after, stage_after_undo};
 ghost use Rattle.iso_acquirer.specs.Room.{reversals_at, reversals_of};
 
 use crate::slot::{Role, Stage};
@@ -9,8 +9,8 @@ use crate::state::State;
 use iso_order::codes::{APPROVED, DUPLICATE_TRANSMISSION, SYSTEM_MALFUNCTION};
 
 /// The state of a transaction at that stage.
-pub(crate) fn state_by(stage: Stage) -> State
-    ensures { result ≡ state_by stage }
+pub(crate) fn state_at_stage(stage: Stage) -> State
+    ensures { result ≡ state_at_stage stage }
 {
     match stage {
         Stage::Waiting(count) => State::Waiting(count),

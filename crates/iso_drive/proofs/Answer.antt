@@ -10,7 +10,7 @@ use Rattle.iso_acquirer.specs.declared.slot.Stage.{Stage}
 use Rattle.iso_acquirer.specs.declared.slot.Stage.TheVariants as phase
 use Rattle.iso_acquirer.specs.declared.state.State.{State}
 use Rattle.iso_acquirer.specs.declared.state.State.TheVariants.{Waiting, Reversing, Approved, Declined, Reversed}
-use Rattle.iso_acquirer.specs.Acquirer.{slot_at, state_of, state_in, state_by, on_stage, slot_at_stage, slots_at_stage, stage_after, stage_after_undo, slots_after_answer, slots_after_answer_at, slots_after_answer_in}
+use Rattle.iso_acquirer.specs.Acquirer.{slot_at, state_of, state_in_role, state_at_stage, on_stage, slot_at_stage, slots_at_stage, stage_after, stage_after_undo, slots_after_answer, slots_after_answer_of_slot, slots_after_answer_in_role}
 use Rattle.iso_acquirer.specs.Agreement.{is_closed}
 use Rattle.iso_drive.specs.declared.made.Made.{Made}
 use Rattle.iso_drive.specs.declared.made.Role.{Role}
@@ -47,7 +47,7 @@ open-found slots stan h = at (slot_at slots stan) refl
   where
     by_role : (s : Slot) → slot_at slots stan ≡ Some s → (role : Part) → s.role ≡ role → (s : Slot) × (stage : Stage) × (slot_at slots stan ≡ Some s) × (s.role ≡ Transaction stage)
     by_role s there (Transaction stage) is = (s, stage, there, is)
-    by_role s there (Reversal k) is = absurd (clash (is_open_at slots stan) h (ap is_open (state-found slots stan s there ∙ ap state_in is)))
+    by_role s there (Reversal k) is = absurd (clash (is_open_at slots stan) h (ap is_open (state-found slots stan s there ∙ ap state_in_role is)))
 
     at : (f : Option Slot) → slot_at slots stan ≡ f → (s : Slot) × (stage : Stage) × (slot_at slots stan ≡ Some s) × (s.role ≡ Transaction stage)
     at None e = absurd (clash (is_open_at slots stan) h (ap is_open (state-none slots stan e)))
@@ -82,10 +82,10 @@ module _ (slots : List Slot) (key : TxKey) (code : ℕ) (s : Slot) (row : AreInR
   pub made-is : is_made slots key ≡ true
   made-is = ap (λ (f : Option Slot). has_key f key) there ∙ same
 
-  after : (role : Part) → s.role ≡ role → slots_after_answer slots key code ≡ slots_after_answer_in slots key.stan code role
+  after : (role : Part) → s.role ≡ role → slots_after_answer slots key code ≡ slots_after_answer_in_role slots key.stan code role
   after role is =
-      ap (slots_after_answer_at slots key code) there ∙ ap (λ b. cond b (slots_after_answer_in slots key.stan code s.role) slots) same
-      ∙ ap (slots_after_answer_in slots key.stan code) is
+      ap (slots_after_answer_of_slot slots key code) there ∙ ap (λ b. cond b (slots_after_answer_in_role slots key.stan code s.role) slots) same
+      ∙ ap (slots_after_answer_in_role slots key.stan code) is
 
   known : (step : Stage → Stage) (m : ℕ) (t : Slot) (stage : Stage) → slots_after_answer slots key code ≡ slots_at_stage step m slots → slot_at slots m ≡ Some t → t.role ≡ Transaction stage → step stage ≡ stage →
       ComesTo slots key code (told_by m None)
@@ -93,16 +93,16 @@ module _ (slots : List Slot) (key : TxKey) (code : ℕ) (s : Slot) (row : AreInR
       (e ∙ stays step slots m t row at (stays-role step t (Transaction stage) is (ap Transaction keeps)), made-is)
 
   closes : (step : Stage → Stage) (m : ℕ) (t : Slot) (stage : Stage) (state : State) → slots_after_answer slots key code ≡ slots_at_stage step m slots → slot_at slots m ≡ Some t → t.role ≡ Transaction stage →
-      is_closed (state_by stage) ≡ false → state_by (step stage) ≡ state → is_closed state ≡ true → ComesTo slots key code (told_by m (Some state))
+      is_closed (state_at_stage stage) ≡ false → state_at_stage (step stage) ≡ state → is_closed state ≡ true → ComesTo slots key code (told_by m (Some state))
   closes step m t stage state e at is opened to shut = record {
     made = made-is;
-    was_open = ap is_open (state-found slots m t at ∙ ap state_in is) ∙ ap not opened;
-    now = ap (λ (l : List Slot). state_of l m) e ∙ state-same step m slots t at ∙ ap (λ r. state_in (on_stage step r)) is ∙ ap Some to;
+    was_open = ap is_open (state-found slots m t at ∙ ap state_in_role is) ∙ ap not opened;
+    now = ap (λ (l : List Slot). state_of l m) e ∙ state-same step m slots t at ∙ ap (λ r. state_in_role (on_stage step r)) is ∙ ap Some to;
     closed = shut;
   }
 
   -- an answer to a transaction's own order
-  pub own-comes : (stage : Stage) → s.role ≡ Transaction stage → ComesTo slots key code (told_by key.stan (own_end (state_by stage) code))
+  pub own-comes : (stage : Stage) → s.role ≡ Transaction stage → ComesTo slots key code (told_by key.stan (own_end (state_at_stage stage) code))
   own-comes (phase.Waiting n) is = go (code == 0) refl ((code == 94) || (code == 96)) refl
     where
       go : (a : Bool) → (code == 0) ≡ a → (b : Bool) → ((code == 94) || (code == 96)) ≡ b → ComesTo slots key code (told_by key.stan (own_end (Waiting n) code))
@@ -114,7 +114,7 @@ module _ (slots : List Slot) (key : TxKey) (code : ℕ) (s : Slot) (row : AreInR
   own-comes (phase.Declined c) is = known (stage_after code) key.stan s (phase.Declined c) (after (Transaction (phase.Declined c)) is) there is refl
   own-comes (phase.Reversed u) is = known (stage_after code) key.stan s (phase.Reversed u) (after (Transaction (phase.Reversed u)) is) there is refl
 
-  undo-by : (m : ℕ) → s.role ≡ Reversal m → (t : Slot) (stage : Stage) → slot_at slots m ≡ Some t → t.role ≡ Transaction stage → ComesTo slots key code (told_by m (undo_end (state_by stage) code))
+  undo-by : (m : ℕ) → s.role ≡ Reversal m → (t : Slot) (stage : Stage) → slot_at slots m ≡ Some t → t.role ≡ Transaction stage → ComesTo slots key code (told_by m (undo_end (state_at_stage stage) code))
   undo-by m is t (phase.Waiting n) at role = known (stage_after_undo code) m t (phase.Waiting n) (after (Reversal m) is) at role refl
   undo-by m is t (phase.Reversing u) at role = go (code == 0) refl
     where
@@ -138,23 +138,23 @@ module _ (slots : List Slot) (key : TxKey) (code : ℕ) (s : Slot) (row : AreInR
 -- ---- an answer to no order of the acquirer's
 
 pub none-comes : (slots : List Slot) (key : TxKey) (code : ℕ) → slot_at slots key.stan ≡ None → ChangesNothing slots key code × (is_made slots key ≡ false)
-none-comes slots key code none = (ap (slots_after_answer_at slots key code) none, ap (λ (f : Option Slot). has_key f key) none)
+none-comes slots key code none = (ap (slots_after_answer_of_slot slots key code) none, ap (λ (f : Option Slot). has_key f key) none)
 
 pub other-comes : (slots : List Slot) (key : TxKey) (code : ℕ) (s : Slot) → slot_at slots key.stan ≡ Some s → same_key s.order.key key ≡ false → ChangesNothing slots key code × (is_made slots key ≡ false)
 other-comes slots key code s there other =
-    (ap (slots_after_answer_at slots key code) there ∙ ap (λ b. cond b (slots_after_answer_in slots key.stan code s.role) slots) other, ap (λ (f : Option Slot). has_key f key) there ∙ other)
+    (ap (slots_after_answer_of_slot slots key code) there ∙ ap (λ b. cond b (slots_after_answer_in_role slots key.stan code s.role) slots) other, ap (λ (f : Option Slot). has_key f key) there ∙ other)
 
 -- ---- the orders as the driver has them, once an answer closed a transaction
 
 pub tabled-closed : (old new : List Made) (slots : List Slot) (key : TxKey) (code stan : ℕ) (state : State) → Closes slots key code stan state →
-    ((s : Slot) (stage : Stage) (step : Stage → Stage) → slot_at slots stan ≡ Some s → s.role ≡ Transaction stage → state_by (step stage) ≡ state → IsTabled new (slots_at_stage step stan slots)) →
+    ((s : Slot) (stage : Stage) (step : Stage → Stage) → slot_at slots stan ≡ Some s → s.role ≡ Transaction stage → state_at_stage (step stage) ≡ state → IsTabled new (slots_at_stage step stan slots)) →
     IsTabled new (slots_after_answer slots key code)
 tabled-closed old new slots key code stan state h put =
     let one = open-found slots stan h.was_open in
     let to = closes-step slots key code stan state h in
-    let ends : Some (state_by (to.0 one.1)) ≡ Some state =
-    sym (ap (λ r. state_in (on_stage to.0 r)) one.3) ∙ sym (state-same to.0 stan slots one.0 one.2) ∙ ap (λ (l : List Slot). state_of l stan) (sym to.1) ∙ h.now in
-    subst (IsTabled new) (sym to.1) (put one.0 one.1 to.0 one.2 one.3 (some_is (state_by (to.0 one.1)) state ends))
+    let ends : Some (state_at_stage (to.0 one.1)) ≡ Some state =
+    sym (ap (λ r. state_in_role (on_stage to.0 r)) one.3) ∙ sym (state-same to.0 stan slots one.0 one.2) ∙ ap (λ (l : List Slot). state_of l stan) (sym to.1) ∙ h.now in
+    subst (IsTabled new) (sym to.1) (put one.0 one.1 to.0 one.2 one.3 (some_is (state_at_stage (to.0 one.1)) state ends))
 
 -- ---- what the driver makes of an answer, by the orders as it has them
 
@@ -162,7 +162,7 @@ judged : (f : Option Slot) (m : Made) → Some m ≡ option_map made_of f → (s
 judged None m h = cc
 judged (Some s) m h = (s, refl, sym (some_is m (made_of s) h))
 
-payment : (role : Part) (state : State) → role_of role ≡ Payment state → (stage : Stage) × (role ≡ Transaction stage) × (state_by stage ≡ state)
+payment : (role : Part) (state : State) → role_of role ≡ Payment state → (stage : Stage) × (role ≡ Transaction stage) × (state_at_stage stage ≡ state)
 payment (Transaction stage) state h = (stage, refl, cc)
 payment (Reversal k) state h = cc
 

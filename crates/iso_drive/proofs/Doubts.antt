@@ -7,7 +7,7 @@ use Rattle.iso_order.specs.Pan.{AccountNumber}
 use Rattle.iso_acquirer.specs.declared.slot.Slot.{Slot}
 use Rattle.iso_drive.specs.declared.made.Made.{Made}
 use Rattle.iso_drive.specs.Doubtful.{is_doubtful, takes_from, is_doubtful_of, doubtful_of, debit_is_of, made_is_doubtful, doubtful_in}
-use Rattle.iso_acquirer.specs.Acquirer.{state_in}
+use Rattle.iso_acquirer.specs.Acquirer.{state_in_role}
 use Rattle.iso_drive.specs.Counts.{is_such}
 use Rattle.iso_drive.specs.Made.{made_of, debit_in}
 use Rattle.iso_drive.proofs.Counted.{role-such}
@@ -22,7 +22,7 @@ debit-same pan (Complete m hold) = refl
 doubt-same : (pan : AccountNumber) (s : Slot) → made_is_doubtful pan (made_of s) ≡ is_doubtful_of pan s
 doubt-same pan s =
     ap (λ (b : Bool). b && debit_is_of (debit_in s.order.act) pan) (role-such is_doubtful s.role)
-    ∙ ap (λ (b : Bool). is_such is_doubtful (state_in s.role) && b) (debit-same pan s.order.act)
+    ∙ ap (λ (b : Bool). is_such is_doubtful (state_in_role s.role) && b) (debit-same pan s.order.act)
 
 -- one more in front, or not
 head : (b : Bool) (m : Made) (s : Slot) (ms : List Made) (ss : List Slot) → m.key.stan ≡ s.order.key.stan →

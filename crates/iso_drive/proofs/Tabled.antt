@@ -16,7 +16,7 @@ use Rattle.iso_acquirer.specs.declared.slot.Stage.{Stage}
 use Rattle.iso_acquirer.specs.declared.slot.Stage.TheVariants as phase
 use Rattle.iso_acquirer.specs.declared.state.State.{State}
 use Rattle.iso_acquirer.specs.declared.state.State.TheVariants.{Waiting}
-use Rattle.iso_acquirer.specs.Acquirer.{slot_at, state_by, on_stage, slot_at_stage, slots_at_stage, timeout, timeout_of_slot, timeout_in_role, timeout_at_stage, next_reversal, slots_with_reversal, reversal_for, transaction_of}
+use Rattle.iso_acquirer.specs.Acquirer.{slot_at, state_at_stage, on_stage, slot_at_stage, slots_at_stage, timeout, timeout_of_slot, timeout_in_role, timeout_at_stage, next_reversal, slots_with_reversal, reversal_for, transaction_of}
 use Rattle.iso_restarts.specs.Diary.{slots_asked}
 use Rattle.iso_drive.specs.declared.made.Made.{Made}
 use Rattle.iso_drive.specs.declared.made.Role.TheVariants.{Payment}
@@ -42,14 +42,14 @@ made-length made slots t = ap length t.same ∙ length-made slots
 
 -- ---- to change it
 
-pub made-stage : (step : Stage → Stage) (s : Slot) (stage : Stage) (state : State) → s.role ≡ Transaction stage → state_by (step stage) ≡ state →
+pub made-stage : (step : Stage → Stage) (s : Slot) (stage : Stage) (state : State) → s.role ≡ Transaction stage → state_at_stage (step stage) ≡ state →
     made_of (slot_at_stage step s) ≡ record { key = s.order.key; debit = debit_in s.order.act; role = Payment state }
 made-stage step s stage state is to =
     ap (λ (r : Part). record { key = s.order.key; debit = debit_in s.order.act; role = role_of (on_stage step r) }) is
     ∙ ap (λ (x : State). record { key = s.order.key; debit = debit_in s.order.act; role = Payment x }) to
 
 pub tabled-stage : (made : List Made) (slots : List Slot) (stan : ℕ) (s : Slot) (stage : Stage) (step : Stage → Stage) (state : State) → IsTabled made slots → slot_at slots stan ≡ Some s →
-    s.role ≡ Transaction stage → state_by (step stage) ≡ state →
+    s.role ≡ Transaction stage → state_at_stage (step stage) ≡ state →
     IsTabled (slice_set made (stan - 1) (record { key = s.order.key; debit = debit_in s.order.act; role = Payment state })) (slots_at_stage step stan slots)
 tabled-stage made slots stan s stage step state t there is to =
     let at = found slots 1 stan s t.in_row there in
@@ -80,14 +80,14 @@ pub asked-role : (slots : List Slot) (stan : ℕ) (s : Slot) (role : Part) → s
 asked-role slots stan s role there is = asked-at slots stan (Some s) there ∙ ap (λ (r : Part). slots_asked slots (timeout_in_role slots s.order r)) is
 
 -- where it doesn't wait for its own answer, nothing changes
-pub asked-stays : (slots : List Slot) (o : Instruction) (stage : Stage) → is_waiting (state_by stage) ≡ false → slots_asked slots (timeout_at_stage slots o stage) ≡ slots
+pub asked-stays : (slots : List Slot) (o : Instruction) (stage : Stage) → is_waiting (state_at_stage stage) ≡ false → slots_asked slots (timeout_at_stage slots o stage) ≡ slots
 asked-stays slots o (phase.Waiting n) h = cc
 asked-stays slots o (phase.Reversing u) h = refl
 asked-stays slots o phase.Approved h = refl
 asked-stays slots o (phase.Declined c) h = refl
 asked-stays slots o (phase.Reversed u) h = refl
 
-pub stage-waits : (stage : Stage) (n : ℕ) → state_by stage ≡ Waiting n → stage ≡ phase.Waiting n
+pub stage-waits : (stage : Stage) (n : ℕ) → state_at_stage stage ≡ Waiting n → stage ≡ phase.Waiting n
 stage-waits (phase.Waiting m) n h = cc
 stage-waits (phase.Reversing u) n h = cc
 stage-waits phase.Approved n h = cc
@@ -106,12 +106,12 @@ asked-no-more slots o n other left = rw (other_number n 1 other, left) refl
 
 -- ---- a time-out, and what the driver makes of it
 
-pub asked-once : (slots : List Slot) (s : Slot) (stage : Stage) (n : ℕ) → state_by stage ≡ Waiting n → n ≡ 1 →
+pub asked-once : (slots : List Slot) (s : Slot) (stage : Stage) (n : ℕ) → state_at_stage stage ≡ Waiting n → n ≡ 1 →
     slots_at_stage (λ _. phase.Waiting 2) s.order.key.stan slots ≡ slots_asked slots (timeout_at_stage slots s.order stage)
 asked-once slots s stage n waits is =
     sym (ap (λ (p : Stage). slots_asked slots (timeout_at_stage slots s.order p)) (stage-waits stage n waits) ∙ asked-again slots s.order n is)
 
-payment-role : (role : Part) (state : State) → role_of role ≡ Payment state → (stage : Stage) × (role ≡ Transaction stage) × (state_by stage ≡ state)
+payment-role : (role : Part) (state : State) → role_of role ≡ Payment state → (stage : Stage) × (role ≡ Transaction stage) × (state_at_stage stage ≡ state)
 payment-role (Transaction stage) state h = (stage, refl, cc)
 payment-role (Reversal k) state h = cc
 
@@ -120,7 +120,7 @@ made-found None m h = cc
 made-found (Some s) m h = (s, refl, sym (some_is m (made_of s) h))
 
 pub timed-out : (old new : List Made) (slots : List Slot) (stan : ℕ) (m : Made) (state : State) → IsTabled old slots → Some m ≡ option_map made_of (slot_at slots stan) → m.role ≡ Payment state →
-    ((s : Slot) (stage : Stage) → slot_at slots m.key.stan ≡ Some s → s.role ≡ Transaction stage → made_of s ≡ m → state_by stage ≡ state → IsTabled new (slots_asked slots (timeout_at_stage slots s.order stage))) →
+    ((s : Slot) (stage : Stage) → slot_at slots m.key.stan ≡ Some s → s.role ≡ Transaction stage → made_of s ≡ m → state_at_stage stage ≡ state → IsTabled new (slots_asked slots (timeout_at_stage slots s.order stage))) →
     IsTabled new (slots_asked slots (timeout slots stan))
 timed-out old new slots stan m state t there role by =
     let one = made-found (slot_at slots stan) m there in
@@ -129,12 +129,12 @@ timed-out old new slots stan m state t there role by =
     subst (IsTabled new) (sym (asked-role slots stan one.0 (Transaction pays.0) one.1 pays.1))
     (by one.0 pays.0 (ap (slot_at slots) own ∙ one.1) pays.1 one.2 pays.2)
 
-pub tabled-reversed : (mid new : List Made) (slots : List Slot) (s : Slot) (u : Instruction) → IsTabled mid (slots_at_stage (λ _. phase.Reversing u) s.order.key.stan slots) → u.key.stan ≡ length slots + 1 →
+pub tabled-reversed : (mid new : List Made) (slots : List Slot) (s : Slot) (u : Instruction) → IsTabled mid (slots_at_stage (λ _. phase.Reversing u.key.stan) s.order.key.stan slots) → u.key.stan ≡ length slots + 1 →
     length slots < 999999 → new ≡ mid ++ made_of (reversal_for s.order.key.stan u) ∷ [] → IsTabled new (slots_with_reversal slots s.order.key.stan u)
 tabled-reversed mid new slots s u t next few is =
-    let same = length-changed (λ _. phase.Reversing u) s.order.key.stan slots in
+    let same = length-changed (λ _. phase.Reversing u.key.stan) s.order.key.stan slots in
     subst (λ (l : List Made). IsTabled l (slots_with_reversal slots s.order.key.stan u)) (sym is)
-    (tabled-push mid (slots_at_stage (λ _. phase.Reversing u) s.order.key.stan slots) (reversal_for s.order.key.stan u) t (omega (arith, same, few)) (omega (arith, same, next)))
+    (tabled-push mid (slots_at_stage (λ _. phase.Reversing u.key.stan) s.order.key.stan slots) (reversal_for s.order.key.stan u) t (omega (arith, same, few)) (omega (arith, same, next)))
 
 -- ---- a purchase that begins
 

@@ -3,7 +3,7 @@ use Rattle.std.specs.Prelude.{◌==◌, ℕ, Bool, true, false, List, Option, So
 use Rattle.iso_acquirer.specs.declared.slot.Slot.{Slot}
 use Rattle.iso_acquirer.specs.declared.state.State.{State}
 use Rattle.iso_acquirer.specs.declared.state.State.TheVariants.{Waiting, Reversing, Approved, Declined, Reversed}
-use Rattle.iso_acquirer.specs.Acquirer.{state_in}
+use Rattle.iso_acquirer.specs.Acquirer.{state_in_role}
 use Rattle.iso_drive.specs.declared.counts.Counts.{Counts}
 use Rattle.iso_drive.specs.declared.made.Role.{Role}
 use Rattle.iso_drive.specs.declared.made.Role.TheVariants.{Payment, Reversal}
@@ -68,7 +68,7 @@ is_such such (Some state) = such state
 
 -- how many transactions are in such a state
 abbrev pub count_of : (State → Bool) → List Slot → ℕ
-count_of such slots = count_by (λ s. is_such such (state_in s.role)) slots
+count_of such slots = count_by (λ s. is_such such (state_in_role s.role)) slots
 
 -- how many transactions are in each state
 abbrev pub counts_of : List Slot → Counts

@@ -8,7 +8,7 @@ use Rattle.iso_order.specs.Order.{same_pan}
 use Rattle.iso_acquirer.specs.declared.slot.Slot.{Slot}
 use Rattle.iso_acquirer.specs.declared.state.State.{State}
 use Rattle.iso_acquirer.specs.declared.state.State.TheVariants.{Waiting, Reversing, Approved, Declined, Reversed}
-use Rattle.iso_acquirer.specs.Acquirer.{state_in}
+use Rattle.iso_acquirer.specs.Acquirer.{state_in_role}
 use Rattle.iso_drive.specs.Counts.{is_such, role_is}
 use Rattle.iso_drive.specs.declared.made.Made.{Made}
 
@@ -30,7 +30,7 @@ takes_from pan (Complete m hold) = false
 
 -- a transaction on the account that no answer to its own order decided
 abbrev pub is_doubtful_of : AccountNumber → Slot → Bool
-is_doubtful_of pan s = is_such is_doubtful (state_in s.role) && takes_from pan s.order.act
+is_doubtful_of pan s = is_such is_doubtful (state_in_role s.role) && takes_from pan s.order.act
 
 -- the trace numbers of the account's transactions that no answer to their own orders decided
 abbrev pub doubtful_of : AccountNumber → List Slot → List ℕ

@@ -7,7 +7,7 @@ use Rattle.iso_acquirer.specs.declared.slot.Role.{Role as Part}
 use Rattle.iso_acquirer.specs.declared.slot.Role.TheVariants as part
 use Rattle.iso_acquirer.specs.declared.state.State.{State}
 use Rattle.iso_acquirer.specs.declared.state.State.TheVariants.{Waiting, Reversing, Approved, Declined, Reversed}
-use Rattle.iso_acquirer.specs.Acquirer.{state_by}
+use Rattle.iso_acquirer.specs.Acquirer.{state_at_stage}
 pub use Rattle.iso_drive.specs.Entries.{debit_in}
 use Rattle.iso_drive.specs.declared.entry.Entry.{Entry}
 use Rattle.iso_drive.specs.declared.heard.Heard.{Heard}
@@ -18,7 +18,7 @@ use Rattle.iso_drive.specs.declared.made.Role.TheVariants.{Payment, Reversal}
 
 -- what an order is to the driver: a payment and its state, or a reversal
 abbrev pub role_of : Part → Role
-role_of (part.Transaction stage) = Payment (state_by stage)
+role_of (part.Transaction stage) = Payment (state_at_stage stage)
 role_of (part.Reversal stan) = Reversal stan
 
 -- an order of the acquirer, as the driver has it

@@ -4,7 +4,7 @@ ghost use Rattle.iso_order.specs.declared.key.TxKey.{TxKey};
 ghost use Rattle.iso_acquirer.specs.declared.slot.Slot.{Slot};
 ghost use Rattle.iso_acquirer.specs.declared.slot.Stage.{Stage};
 ghost use Rattle.iso_acquirer.specs.declared.slot.Role.TheVariants.{Transaction};
-ghost use Rattle.iso_acquirer.specs.Acquirer.{slot_at, state_by, slots_at_stage, timeout, timeout_at_stage, slots_after_answer, reversal_for, next_reversal, slots_with_reversal};
+ghost use Rattle.iso_acquirer.specs.Acquirer.{slot_at, state_at_stage, slots_at_stage, timeout, timeout_at_stage, slots_after_answer, reversal_for, next_reversal, slots_with_reversal};
 ghost use Rattle.iso_restarts.specs.Diary.{slots_asked};
 ghost use Rattle.iso_drive.specs.Answered.{Closes, ComesTo};
 ghost use Rattle.iso_drive.specs.Made.{made_of, IsTabled, own_end, undo_end_in, undo_end_at, told_by};
@@ -53,7 +53,8 @@ pub(crate) fn made_at(made: &[Made], stan: u32) -> Option<Made>
 fn put_state(made: &mut [Made], stan: u32, state: State)
     ensures { (slots : List Slot) (s : Slot) (stage : Stage) (step : Stage → Stage)
         → IsTabled made.old slots
-        → slot_at slots stan ≡ Some s → s.role ≡ Transaction stage → state_by (step stage) ≡ state
+        → slot_at slots stan ≡ Some s → s.role ≡ Transaction stage
+        → state_at_stage (step stage) ≡ state
         → IsTabled made.new (slots_at_stage step stan slots) }
 {
     if stan == 0 {
@@ -109,7 +110,7 @@ fn time_out_by(made: &mut Vec<Made>, of: &Made, state: State)
     requires { vec_len made.old < vec_capacity made.old }
     ensures { (slots : List Slot) (s : Slot) (stage : Stage) → IsTabled made.old.items slots
         → slot_at slots of.now.key.stan ≡ Some s → s.role ≡ Transaction stage → made_of s ≡ of.now
-        → state_by stage ≡ state
+        → state_at_stage stage ≡ state
         → IsTabled made.new.items (slots_asked slots (timeout_at_stage slots s.order stage)) }
 {
     let State::Waiting(count) = state else {

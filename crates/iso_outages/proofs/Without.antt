@@ -19,7 +19,7 @@ use Rattle.iso_acquirer.specs.declared.slot.Role.{Role}
 use Rattle.iso_acquirer.specs.declared.slot.Role.TheVariants.{Transaction, Reversal}
 use Rattle.iso_acquirer.specs.declared.slot.Stage.{Stage}
 use Rattle.iso_acquirer.specs.declared.slot.Stage.TheVariants.{Waiting, Reversing, Approved, Declined, Reversed}
-use Rattle.iso_acquirer.specs.Acquirer.{slot_at, on_stage, slot_at_stage, slots_at_stage, stage_after, stage_after_undo, slots_with, debit_of, timeout, slots_after_answer, slots_after_answer_in, slots_after_answer_at}
+use Rattle.iso_acquirer.specs.Acquirer.{slot_at, on_stage, slot_at_stage, slots_at_stage, stage_after, stage_after_undo, slots_with, debit_of, timeout, slots_after_answer, slots_after_answer_in_role, slots_after_answer_of_slot}
 use Rattle.iso_acquirer.specs.World.{World as BothEnds, IsMade}
 use Rattle.iso_acquirer.specs.Runs.{IsRun}
 use Rattle.iso_acquirer.specs.Runs.{CanHappen as CanPass}
@@ -60,15 +60,15 @@ slots-stay step stan stays (s ∷ ss) = ap (λ (x : Slot). x ∷ slots_at_stage 
 full-stays : (slots : List Slot) (key : TxKey) → slots_after_answer slots key 96 ≡ slots
 full-stays slots key = by_slot (slot_at slots key.stan)
   where
-    by_role : (r : Role) → slots_after_answer_in slots key.stan 96 r ≡ slots
+    by_role : (r : Role) → slots_after_answer_in_role slots key.stan 96 r ≡ slots
     by_role (Transaction stage) = slots-stay (stage_after 96) key.stan stage-stays slots
     by_role (Reversal n) = slots-stay (stage_after_undo 96) n undo-stays slots
 
-    by_test : (s : Slot) (b : Bool) → cond b (slots_after_answer_in slots key.stan 96 s.role) slots ≡ slots
+    by_test : (s : Slot) (b : Bool) → cond b (slots_after_answer_in_role slots key.stan 96 s.role) slots ≡ slots
     by_test s true = by_role s.role
     by_test s false = refl
 
-    by_slot : (f : Option Slot) → slots_after_answer_at slots key 96 f ≡ slots
+    by_slot : (f : Option Slot) → slots_after_answer_of_slot slots key 96 f ≡ slots
     by_slot None = refl
     by_slot (Some s) = by_test s (same_key s.order.key key)
 

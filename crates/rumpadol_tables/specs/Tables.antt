@@ -29,8 +29,8 @@ good_line name t = name ++ (codes ": good, "
     ++ (sizes_text t.version (count_by is_some t.rows) (max_bytes t) ++ codes "\n"))
 
 -- what was appended is that line of the table that is named
-abbrev pub ChecksOver : Sources → List ℕ → Output → Type 0
-ChecksOver sources word output = (t : Layout) × IsNamed sources.file sources.input word t
+abbrev pub TellsGoodTable : Sources → List ℕ → Output → Type 0
+TellsGoodTable sources word output = (t : Layout) × IsNamed sources.file sources.input word t
     × Appends output.old output.new (good_line word t)
 
 -- the line of a built-in table: its name, its version, its codings, and how many rows it has
@@ -41,8 +41,8 @@ list_line name t =
     ++ (codes ", " ++ (decimal (count_by is_some t.rows) ++ codes " rows\n"))))))))
 
 -- what was appended are the lines of the built-in tables
-abbrev pub ListsOver : Output → Type 0
-ListsOver output =
+abbrev pub ListsBuiltIn : Output → Type 0
+ListsBuiltIn output =
     (a : Layout) × (b : Layout) × IsEdition87 Ascii a × IsEdition87 Bcd b
     × Appends output.old output.new (list_line (codes "ascii87") a ++ list_line (codes "bcd87") b)
 
@@ -67,8 +67,8 @@ IsChanged from drops texts t =
     × IsAcceptable d × Holds t d
 
 -- what was appended is the document of such a table, and a newline
-abbrev pub MakesOver : Sources → List ℕ → List ℕ → List (List ℕ) → Output → Type 0
-MakesOver sources word drops texts output =
+abbrev pub WritesMadeTable : Sources → List ℕ → List ℕ → List (List ℕ) → Output → Type 0
+WritesMadeTable sources word drops texts output =
     (from : Layout) × (t : Layout) × IsNamed sources.file sources.input word from
     × IsChanged from drops texts t
     × Appends output.old output.new (compact_text (document t) ++ codes "\n")

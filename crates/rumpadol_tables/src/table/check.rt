@@ -3,7 +3,7 @@
 ghost use Rattle.std.specs.Prelude.{◌≡◌, IfErr, IfOk, OnOk, string_bytes};
 ghost use Rattle.rumpadol_tables.specs.Named.{NamesNone};
 ghost use Rattle.rumpadol_tables.specs.Stop.{status_of};
-ghost use Rattle.rumpadol_tables.specs.Tables.{ChecksOver, good_line, sizes_text};
+ghost use Rattle.rumpadol_tables.specs.Tables.{TellsGoodTable, good_line, sizes_text};
 
 use crate::named::table_named;
 use crate::source::Source;
@@ -38,7 +38,7 @@ pub fn check<S: Source, I: Read, O: Write>(
 ) -> Result<(), Stop>
     // At `Ok` the output grew by the line of the named table: its version, its count of rows, and
     // how many bytes a message may take.
-    ensures good { OnOk result (ChecksOver
+    ensures good { OnOk result (TellsGoodTable
         (record { file = S.file source.now; input = I.remaining input.old }) word.now
         (record { old = O.contents output.old; new = O.contents output.new })) }
     // The status is 1 only where the word names a document that is too long, or that is no table.

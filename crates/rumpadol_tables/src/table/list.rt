@@ -2,7 +2,7 @@
 
 ghost use Rattle.std.specs.Prelude.{◌≡◌, ◌++◌, IfOk, OnOk, string_bytes};
 ghost use Rattle.iso_table.specs.Names.{bitmap_name, digits_name};
-ghost use Rattle.rumpadol_tables.specs.Tables.{ListsOver, list_line};
+ghost use Rattle.rumpadol_tables.specs.Tables.{ListsBuiltIn, list_line};
 
 use crate::stop::{Stop, write_output};
 use iso_parts::Digits;
@@ -42,7 +42,7 @@ fn line_of(alloc: Global, name: &str, table: &Table) -> Result<String, AllocErro
 /// Lists the built-in tables, a line each.
 pub fn list<O: Write>(alloc: Global, output: &mut O) -> Result<(), Stop>
     // At `Ok` the output grew by the lines of `ascii87` and `bcd87`, and by nothing else.
-    ensures { OnOk result (ListsOver
+    ensures { OnOk result (ListsBuiltIn
         (record { old = O.contents output.old; new = O.contents output.new })) }
 {
     let ascii = Table::ascii87(alloc)?;

@@ -4,7 +4,7 @@ ghost use Rattle.std.specs.Prelude.{◌≡◌, ◌++◌, IfErr, IfOk, Ok, OnOk, 
 ghost use Rattle.serde_json.specs.Written.{compact_text};
 ghost use Rattle.iso_table.specs.Accepted.{contents};
 ghost use Rattle.iso_table.specs.Document.{document};
-ghost use Rattle.rumpadol_tables.specs.Tables.{IsChanged, MakesOver, with_text, with_texts, without_rows};
+ghost use Rattle.rumpadol_tables.specs.Tables.{IsChanged, WritesMadeTable, with_text, with_texts, without_rows};
 
 use crate::named::table_named;
 use crate::source::Source;
@@ -112,7 +112,7 @@ pub fn make<S: Source, I: Read, O: Write>(
 ) -> Result<(), Stop>
     // At `Ok` the output grew by the document of an accepted table, and a newline: the named table
     // without the dropped rows, and then with each row that is set.
-    ensures { OnOk result (MakesOver
+    ensures { OnOk result (WritesMadeTable
         (record { file = S.file source.now; input = I.remaining input.old })
         words.now.from.now words.now.drops.items (map (λ text. text.now) words.now.rows.items)
         (record { old = O.contents output.old; new = O.contents output.new })) }

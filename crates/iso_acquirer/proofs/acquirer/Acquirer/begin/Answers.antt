@@ -11,8 +11,8 @@ invariant_of-self-2 c =
     let many : c.len-used.result ≡ length slots = c.len-used.ensures ∙ c.self.inside.slots.ok.0 in
     rw items
     (kept-begun c.self.inside.id slots c.self.inside.reversals_left _ _ _ _ c.debit-order.result c.self.invariant
-    (ap (λ o. o.key.stan) c.debit-order.ensures ∙ ap (λ n. n + 1) many)
-    (ap (λ o. o.key.base) c.debit-order.ensures)
+    (ap (λ o. o.key.stan) c.debit-order.ensures ∙ ap (λ k. k.stan) c.request_key-key.ensures ∙ ap (λ n. n + 1) many)
+    (ap (λ o. o.key.base) c.debit-order.ensures ∙ ap (λ k. k.base) c.request_key-key.ensures)
     (omega (arith, many, c.if-used.false))
     (omega (arith, c.in_ok-reserve.ensures.ok, c.push_reserved.ensures.len, c.push_reserved.ensures.capacity)))
 

@@ -22,4 +22,4 @@ invariant_of-self c =
     let enough = open-counted c.self.inside.id slots c.self.inside.reversals_left _ _ c.args.slot.now.order.key.stan c.reversals_of-before.result c.args.slot.now c.self.invariant there c.reversals_of-before.ensures in
     rw (with_items_is c.self.inside.slots c.put_stage.new.slots same ∙ put)
     (kept-brought c.self.inside.id slots c.self.inside.reversals_left _ _ _ _ c.args.slot.now.order.key.stan c.reversals_of-before.result c.reversals_at-after.result c.args.slot.now c.requires.transaction.0 c.args.stage
-    c.self.invariant there c.requires.transaction.1 c.reversals_of-before.ensures c.reversals_at-after.ensures (rw (c.reversals_of-before.ensures, c.reversals_at-after.ensures) c.requires.fewer) enough refl refl)
+    c.self.invariant there c.requires.transaction.1 c.reversals_of-before.ensures c.reversals_at-after.ensures (rw (c.reversals_of-before.ensures, c.reversals_at-after.ensures) c.requires.fewer) enough refl refl c.requires.traced)

@@ -1,7 +1,7 @@
 use Rattle.std.proofs.Common.{List, ℕ, Bor, map, subst, ◌∙◌}
 use Rattle.std.specs.Io.KnownBytes.{Appends}
 use Rattle.iso_table.specs.Layout.{Layout}
-use Rattle.rumpadol_tables.specs.Tables.{IsChanged, MakesOver}
+use Rattle.rumpadol_tables.specs.Tables.{IsChanged, WritesMadeTable}
 use Rattle.rumpadol_tables.proofs.KnownLemmas.{where_ok}
 use Rattle.rumpadol_tables.proofs.table.new.make.Goals as goal
 
@@ -19,6 +19,6 @@ returns g c =
     let changed : IsChanged from drops (texts rows) t =
     subst (λ (rs : List (Bor (List ℕ))). IsChanged from drops (texts rs) t) c.deref-2.ensures.value of_drops in
     where_ok c.write_output.result (Appends old new c.deref-3.result.now)
-    (MakesOver (record { file = g.S.Source.file c.args.source.now; input = g.I.Read.remaining c.args.input.now }) c.args.words.now.from.now drops (texts rows) (record { old = old; new = new }))
+    (WritesMadeTable (record { file = g.S.Source.file c.args.source.now; input = g.I.Read.remaining c.args.input.now }) c.args.words.now.from.now drops (texts rows) (record { old = old; new = new }))
     (λ written. (from, t, c.in_ok-from.ensures.ok, changed, subst (λ (l : List ℕ). Appends old new l) (c.deref-3.ensures.value ∙ c.in_ok-text.ensures) written))
     c.write_output.ensures.written

@@ -1,0 +1,9 @@
+use Rattle.std.proofs.Common.{◌≡◌, ap, sym, ◌∙◌, Some}
+use Rattle.iso_acquirer.specs.Acquirer.{slot_at}
+use Rattle.iso_acquirer.proofs.Kept.{request-at}
+use Rattle.iso_acquirer.proofs.acquirer.Acquirer.timeout.Goals as goal
+
+pub timeout_at_stage-requires-clause-request : goal.timeout_at_stage-requires-clause-request
+timeout_at_stage-requires-clause-request c =
+    let at : slot_at c.self.inside.slots.items c.args.stan ≡ Some c.in-Some.slot = ap (λ xs. slot_at xs c.args.stan) (sym c.deref.ensures.value) ∙ sym c.slot_at.ensures.value ∙ c.in-Some.is in
+    request-at c.self.inside.slots.items c.args.stan c.in-Some.slot c.self.invariant.requests at
