@@ -1,5 +1,6 @@
 -- Bytes behind those that a peer holds.
 use Rattle.std.proofs.Common.{◌≡◌, ◌≢◌, ℕ, zero, suc, ◌+◌, ◌-◌, ◌<◌, ◌≤◌, Bool, true, false, eqb, leb, ◌&&◌, List, [], ◌∷◌, ◌++◌, length, take, drop, slice_index_or, Some, None, inl, inr, refl, sym, subst, ap, ◌∙◌, arith, length-append, length-take, length-drop, append_assoc, append-nil, take-append-drop}
+use Rattle.std.specs.Prelude.{Result, Ok, Err, IfOk, IfErr, OnOk, OnErr}
 use Rattle.std.proofs.Math.Seq.{take-add, take-length}
 use Rattle.std.proofs.lemmas.Bool.{eqb-true, eq-eqb, leb-true}
 use Rattle.iso_table.specs.Layout.{Layout}
@@ -13,9 +14,12 @@ use Rattle.iso_host.specs.Handling.{EntersOrKeeps}
 use Rattle.iso_host.specs.Hosting.{Answers, IsHandled, replying}
 use Rattle.iso_host.specs.Links.{agreed}
 use Rattle.iso_host.specs.Peers.{Refuses, Takes, one_peer, unfinished}
+use Rattle.iso_host.specs.Stepping.{taken_as}
 use Rattle.iso_host.specs.declared.handled.Handled.{Handled}
+use Rattle.iso_host.specs.declared.peer.PeerFault.{PeerFault}
 use Rattle.iso_host.specs.declared.peer.PeerFault.TheVariants.{Memory}
 use Rattle.iso_host.specs.declared.taking.Begun.{Begun}
+use Rattle.iso_host.specs.declared.taking.Step.{Step}
 
 -- ---- headers
 
@@ -102,14 +106,36 @@ first_of [] some = absurd (some refl)
 first_of (x ∷ l) some = refl
 
 -- the byte that ends the frame of an empty body
-pub ends_empty : (h : Header) (held head bytes : List ℕ) (byte n : ℕ) → head ≡ held ++ (byte ∷ []) → length held < header_size h → bytes ≡ byte ∷ drop 1 bytes
-    → take (header_size h) head ≡ header_of h n → n ≡ 0 → held ++ bytes ≡ frame_of h [] ++ drop 1 bytes
-ends_empty h held head bytes byte n front short first header none =
-    let rest = drop 1 bytes in
+pub empty_frame : (h : Header) (held head : List ℕ) (byte n : ℕ) → head ≡ held ++ (byte ∷ []) → length held < header_size h → take (header_size h) head ≡ header_of h n → n ≡ 0 → held ++ (byte ∷ []) ≡ frame_of h []
+empty_frame h held head byte n front short header none =
     let few : length head ≤ header_size h = omega (arith, short, ap length front, length-append held (byte ∷ [])) in
-    let whole : held ++ (byte ∷ []) ≡ header_of h 0 = sym front ∙ sym (take_all (header_size h) head few) ∙ header ∙ ap (header_of h) none in
-    ap (λ (l : List ℕ). held ++ l) first ∙ sym (append_assoc held (byte ∷ []) rest)
-    ∙ ap (λ (l : List ℕ). l ++ rest) (whole ∙ sym (append-nil (header_of h 0)))
+    sym front ∙ sym (take_all (header_size h) head few) ∙ header ∙ ap (header_of h) none ∙ sym (append-nil (header_of h 0))
+
+-- and the bytes behind it
+pub ends_empty : (h : Header) (held bytes : List ℕ) (byte : ℕ) → held ++ (byte ∷ []) ≡ frame_of h [] → bytes ≡ byte ∷ drop 1 bytes → held ++ bytes ≡ frame_of h [] ++ drop 1 bytes
+ends_empty h held bytes byte whole first =
+    let rest = drop 1 bytes in
+    ap (λ (l : List ℕ). held ++ l) first ∙ sym (append_assoc held (byte ∷ []) rest) ∙ ap (λ (l : List ℕ). l ++ rest) whole
+
+-- that body is answered
+pub takes_empty : (t : Layout) (h : Header) (held : List ℕ) (first last : Begun) (old new : Books) (bytes out grown : List ℕ) (byte : ℕ) (told : Handled) (r : Result Step PeerFault)
+    → held ++ (byte ∷ []) ≡ frame_of h [] → bytes ≡ byte ∷ drop 1 bytes → IfOk r (λ s. s ≡ record { used = 1; ended = true })
+    → OnOk r (Answers (agreed t h) (replying old out) (replying new grown) []) → OnOk r (IsHandled t old [] told) → OnOk r (last ≡ record first { count = 0 })
+    → IfOk r (λ s. Takes (agreed t h) (one_peer held old out) (one_peer (head_of last) new grown) bytes (taken_as s told))
+takes_empty t h held first last old new bytes out grown byte told (Ok step) whole is tells answers handled none =
+    subst (λ (s : Step). Takes (agreed t h) (one_peer held old out) (one_peer (head_of last) new grown) bytes (taken_as s told)) (sym tells) (record {
+      within = omega (arith, ap length is);
+      piece = ([], ap (λ (l : List ℕ). held ++ take 1 l) is ∙ whole, omega arith, ap head_of none, answers, handled);
+      some = λ _ e. omega (arith, e);
+    })
+takes_empty t h held first last old new bytes out grown byte told (Err e) whole is tells answers handled none = tt
+
+-- or not, without memory
+pub refuses_empty : (t : Layout) (h : Header) (held : List ℕ) (old new : Books) (bytes : List ℕ) (r : Result Step PeerFault) → held ++ bytes ≡ frame_of h [] ++ drop 1 bytes → IfErr r (λ e. e ≡ Memory)
+    → OnErr r (EntersOrKeeps t h old new (message_in t [])) → IfErr r (Refuses (unfinished (agreed t h) held) old new bytes)
+refuses_empty t h held old new bytes (Ok step) joined memory enters = tt
+refuses_empty t h held old new bytes (Err e) joined memory enters =
+    subst (Refuses (unfinished (agreed t h) held) old new bytes) (sym memory) (refuses_behind t h held old new bytes [] (drop 1 bytes) joined (omega arith) enters)
 
 -- the byte that shows that a header isn't of digits
 pub bad_behind : BadStays → (h : Header) (held head bytes : List ℕ) (byte : ℕ) → head ≡ held ++ (byte ∷ []) → bytes ≡ byte ∷ drop 1 bytes → is_bad_header h head ≡ true → is_bad_header h (held ++ bytes) ≡ true

@@ -16,6 +16,7 @@ ghost use Rattle.iso_host.specs.Output.{IsFramed, outcome_for, outcome_of};
 ghost use Rattle.iso_host.specs.Gathering.{ReadsBody};
 ghost use Rattle.iso_host.specs.Hosting.{Answers, AnswersMessage, GrowsBy, IsHandled, IsHandledBy, replying};
 ghost use Rattle.iso_host.specs.Links.{agreed};
+ghost use Rattle.iso_host.specs.declared.handled.Handled.TheVariants.{Ordered};
 
 use crate::handled::{BodyFault, Handled};
 use iso_issuer::laws::firsts_stay;
@@ -169,6 +170,17 @@ pub fn enters_nothing(issuer: &Issuer)
     let _entries = issuer.len();
 }
 
+/// What a log may tell of an order that got this answer.
+fn ordered(order: &Order, answer: &Answer) -> Handled
+    ensures { result ≡ Ordered order.now.key answer.now.code answer.now.seq }
+{
+    Handled::Ordered {
+        key: order.key(),
+        code: answer.code,
+        seq: answer.seq,
+    }
+}
+
 /// The answer to a message, if it gets one, and what of it a log may tell. An order is entered before it is answered.
 #[inline(always)]
 fn answer_to(
@@ -199,11 +211,7 @@ fn answer_to(
         }
         Verdict::Order(order) => match answer_order(issuer, order) {
             Ok(answer) => {
-                *told = Handled::Ordered {
-                    key: order.key(),
-                    code: answer.code,
-                    seq: answer.seq,
-                };
+                *told = ordered(&order, &answer);
                 Ok(Some(answer))
             }
             Err(fault) => Err(fault),

@@ -1,5 +1,5 @@
 //! The next frame of a reader, taken through a window, and its body answered.
-ghost use Rattle.std.specs.Prelude.{◌≡◌, [], OnOk};
+ghost use Rattle.std.specs.Prelude.{◌≡◌, [], drop, IfOk, IfErr, OnOk, OnErr};
 ghost use Rattle.std.specs.Io.KnownBytes.{Keeps, prepend_known};
 ghost use Rattle.iso_table.specs.HostReady.{IsHostReady};
 ghost use Rattle.iso_host.specs.Beginning.{held_of, IsBegun};
@@ -7,7 +7,9 @@ ghost use Rattle.iso_host.specs.Counts.{stream};
 ghost use Rattle.iso_host.specs.Hosting.{replying};
 ghost use Rattle.iso_host.specs.Links.{agreed};
 ghost use Rattle.iso_host.specs.NextFrame.{AnswersFrame, Fills, SpendsOnNext, taking};
+ghost use Rattle.iso_host.specs.Peers.{Refuses, Takes, one_peer, unfinished};
 ghost use Rattle.iso_host.specs.Reading.{SpendsOnReads, reading};
+ghost use Rattle.iso_host.specs.Stepping.{taken_as};
 ghost use Rattle.iso_host.specs.Turns.{TakesTurns};
 
 use crate::answering::{Rooms, no_rooms};
@@ -16,7 +18,7 @@ use crate::gathering::Gathering;
 use crate::handled::Handled;
 use crate::peer::PeerFault;
 use crate::streams::Inlet;
-use crate::taking::{Begun, NOT_BEGUN, head_len, take_bytes};
+use crate::taking::{Begun, NOT_BEGUN, Step, head_len, take_bytes};
 use crate::window::Window;
 use iso_issuer::Issuer;
 use iso_table::Table;
@@ -77,6 +79,51 @@ fn fill<R: Inlet>(window: &mut Window, reader: &mut R, left: &mut u64) -> Result
     }
 }
 
+/// Takes bytes of the window, from the front on, up to the end of a frame, and answers its body.
+#[inline(always)]
+fn take_window(
+    table: &Table,
+    header: Header,
+    line: &mut Line<'_>,
+    issuer: &mut Issuer,
+) -> Result<Step, PeerFault>
+    requires ready { IsHostReady table.now }
+    requires same { line.old.gathering.table ≡ table.now }
+    requires begun { IsBegun header line.old.begun line.old.gathering.part }
+    ensures took { IfOk result (λ step. Takes (agreed table.now header)
+        (one_peer (held_of line.old.begun line.old.gathering.part) issuer.old line.old.out.items)
+        (one_peer (held_of line.new.begun line.new.gathering.part) issuer.new line.new.out.items)
+        line.old.window (taken_as step line.new.told)) }
+    ensures passed { IfOk result (λ step. line.new.window ≡ drop step.used line.old.window) }
+    ensures refused { IfErr result (Refuses
+        (unfinished (agreed table.now header) (held_of line.old.begun line.old.gathering.part))
+        issuer.old issuer.new line.old.window) }
+    ensures begun { IsBegun header line.new.begun line.new.gathering.part }
+    ensures same { line.new.gathering.table ≡ table.now }
+    ensures window { OnErr result (line.new.window ≡ line.old.window) }
+    ensures held { OnErr result (line.new.begun ≡ line.old.begun) }
+    ensures gathered { OnErr result (line.new.gathering.part ≡ line.old.gathering.part) }
+{
+    let took = take_bytes(
+        table,
+        header,
+        &mut line.begun,
+        &mut line.gathering,
+        issuer,
+        &mut line.rooms,
+        line.window.bytes(),
+        &mut line.out,
+        &mut line.told,
+    );
+    match took {
+        Err(fault) => Err(fault),
+        Ok(step) => {
+            line.window.pass(step.used);
+            Ok(step)
+        }
+    }
+}
+
 /// Takes the next frame of the reader, answers its body, and tells what came of it; not, where the input ends before it.
 #[inline(always)]
 pub fn next_frame<R: Inlet>(
@@ -127,25 +174,11 @@ pub fn next_frame<R: Inlet>(
             Err(fault) => return Err(fault),
             Ok(()) => {}
         }
-        let took = take_bytes(
-            table,
-            header,
-            &mut line.begun,
-            &mut line.gathering,
-            issuer,
-            &mut line.rooms,
-            line.window.bytes(),
-            &mut line.out,
-            &mut line.told,
-        );
-        let step = match took {
+        match take_window(table, header, line, issuer) {
             Err(PeerFault::BadHeader) => return Err(ServeFault::BadHeader),
             Err(PeerFault::Memory) => return Err(ServeFault::Memory),
-            Ok(step) => step,
-        };
-        line.window.pass(step.used);
-        if step.ended {
-            return Ok(true);
+            Ok(step) if step.ended => return Ok(true),
+            Ok(_) => {}
         }
     }
 }

@@ -144,19 +144,10 @@ pub fn serve<R: Inlet, W: Outlet>(
     let mut line = new_line(alloc, table);
     'frames: loop {
         line.out.clear();
-        let read = next_frame(table, header, &mut line, issuer, reader, &mut left);
-        let is_taken = match read {
-            Err(fault) => return Err(fault),
-            Ok(is_taken) => is_taken,
-        };
-        if !is_taken {
+        if !next_frame(table, header, &mut line, issuer, reader, &mut left)? {
             return Ok(report);
         }
-        let written = write_answer(writer, &line.out, &mut left);
-        match written {
-            Err(failed) => return Err(failed),
-            Ok(()) => {}
-        }
+        write_answer(writer, &line.out, &mut left)?;
         count_frame(&mut report, &line.told);
     }
 }

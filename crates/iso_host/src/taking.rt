@@ -1,5 +1,5 @@
 //! One step of a peer: bytes that come are taken, up to the end of a frame.
-ghost use Rattle.std.specs.Prelude.{◌≡◌, ◌+◌, ◌<◌, ◌≤◌, ◌∷◌, ◌++◌, [], length, take, IfOk, IfErr, OnOk, OnErr};
+ghost use Rattle.std.specs.Prelude.{◌≡◌, ◌+◌, ◌-◌, ◌<◌, ◌≤◌, ◌∷◌, ◌++◌, [], length, true, false, IfOk, IfErr, OnOk, OnErr};
 ghost use Rattle.iso_table.specs.HostReady.{IsHostReady};
 ghost use Rattle.iso_host.specs.Asking.{message_in};
 ghost use Rattle.iso_host.specs.Beginning.{head_of, held_of, IsBegun, IsInBody, IsInHeader};
@@ -8,6 +8,7 @@ ghost use Rattle.iso_host.specs.Hosting.{Answers, IsHandled, replying};
 ghost use Rattle.iso_host.specs.Links.{agreed};
 ghost use Rattle.iso_host.specs.Peers.{Takes, Refuses, one_peer, unfinished};
 ghost use Rattle.iso_host.specs.Stepping.{taken_as};
+ghost use Rattle.iso_host.specs.declared.peer.PeerFault.TheVariants.{Memory};
 
 use crate::answering::{Rooms, answer_body, answer_request, enters_nothing};
 use crate::gathering::Gathering;
@@ -34,23 +35,23 @@ pub struct Step {
     pub ended: bool,
 }
 
-/// Nothing is taken.
-const NO_BYTE: Step = Step {
-    used: 0,
-    ended: false,
-};
+impl Step {
+    /// So many bytes are taken, and end no frame.
+    #[inline(always)]
+    fn inside(used: usize) -> Step
+        ensures { result ≡ record { used = used; ended = false } }
+    {
+        Step { used, ended: false }
+    }
 
-/// One byte is taken, and ends no frame.
-const ONE_BYTE: Step = Step {
-    used: 1,
-    ended: false,
-};
-
-/// One byte is taken, the last of a frame.
-const LAST_BYTE: Step = Step {
-    used: 1,
-    ended: true,
-};
+    /// So many bytes are taken, and end a frame.
+    #[inline(always)]
+    fn ending(used: usize) -> Step
+        ensures { result ≡ record { used = used; ended = true } }
+    {
+        Step { used, ended: true }
+    }
+}
 
 /// No frame has begun.
 pub const NOT_BEGUN: Begun = Begun {
@@ -68,14 +69,47 @@ pub fn head_len(begun: &Begun) -> usize
     begun.count
 }
 
-/// The bytes of a header that came, and then one more.
-fn head_with(begun: &Begun, byte: u8) -> [u8; 4]
+/// The frame that has begun, once one byte more of its header came.
+fn with_header_byte(begun: &Begun, byte: u8) -> Begun
     requires { begun.now.count < 4 }
-    ensures { take (begun.now.count + 1) result ≡ head_of begun.now ++ byte ∷ [] }
+    ensures count { result.count ≡ begun.now.count + 1 }
+    ensures head { head_of result ≡ head_of begun.now ++ byte ∷ [] }
 {
-    let mut head = begun.head;
-    head[begun.count] = byte;
-    head
+    let mut grown = *begun;
+    grown.head[begun.count] = byte;
+    grown.count += 1;
+    grown
+}
+
+/// Answers the empty body whose frame ends with the last byte of its header.
+fn answer_empty(
+    table: &Table,
+    header: Header,
+    begun: &mut Begun,
+    issuer: &mut Issuer,
+    rooms: &mut Rooms,
+    out: &mut Vec<u8>,
+    told: &mut Handled,
+) -> Result<Step, PeerFault>
+    requires ready { IsHostReady table.now }
+    ensures step { IfOk result (λ step. step ≡ record { used = 1; ended = true }) }
+    ensures answered { OnOk result (Answers (agreed table.now header)
+        (replying issuer.old out.old.items) (replying issuer.new out.new.items) []) }
+    ensures handled { OnOk result (IsHandled table.now issuer.old [] told.new) }
+    ensures none { OnOk result (begun.new ≡ record begun.old { count = 0 }) }
+    ensures fault { IfErr result (λ e. e ≡ Memory) }
+    ensures memory { OnErr result
+        (EntersOrKeeps table.now header issuer.old issuer.new (message_in table.now [])) }
+    ensures held { OnErr result (begun.new ≡ begun.old) }
+    ensures unchanged { OnErr result (out.new.items ≡ out.old.items) }
+{
+    match answer_body(table, header, issuer, rooms, &[], out, told) {
+        Err(_) => Err(PeerFault::Memory),
+        Ok(()) => {
+            begun.count = 0;
+            Ok(Step::ending(1))
+        }
+    }
 }
 
 /// Takes one byte of a header. Where it ends the frame of an empty body, that is answered.
@@ -107,27 +141,16 @@ fn take_header_byte(
     // the laws that a header and fewer bytes than it counts need more, and that a bad one stays so, for the prover
     splits_once();
     if bytes.is_empty() {
-        return Ok(NO_BYTE);
+        return Ok(Step::inside(0));
     }
-    let head = head_with(begun, bytes[0]);
-    let count = begun.count + 1;
-    let counted = body_length(header, &head[..count]);
-    match counted {
+    let grown = with_header_byte(begun, bytes[0]);
+    match body_length(header, &grown.head[..grown.count]) {
         Err(_) => Err(PeerFault::BadHeader),
-        Ok(Some(n)) if n == 0 => match answer_body(table, header, issuer, rooms, &[], out, told) {
-            Err(_) => Err(PeerFault::Memory),
-            Ok(()) => {
-                begun.count = 0;
-                Ok(LAST_BYTE)
-            }
-        },
+        Ok(Some(n)) if n == 0 => answer_empty(table, header, begun, issuer, rooms, out, told),
         Ok(length) => {
-            *begun = Begun {
-                head,
-                count,
-                left: length.unwrap_or(0),
-            };
-            Ok(ONE_BYTE)
+            *begun = grown;
+            begun.left = length.unwrap_or(0);
+            Ok(Step::inside(1))
         }
     }
 }
@@ -179,10 +202,7 @@ fn take_first(
             let (_, rest) = bytes.split_at(header.size());
             match answer_body(table, header, issuer, rooms, &rest[..length], out, told) {
                 Err(_) => Err(PeerFault::Memory),
-                Ok(()) => Ok(Step {
-                    used: header.size() + length,
-                    ended: true,
-                }),
+                Ok(()) => Ok(Step::ending(header.size() + length)),
             }
         }
         Ok(_) => {
@@ -229,6 +249,31 @@ fn answer_last(
     }
 }
 
+/// Holds bytes of a body that goes on behind them.
+fn hold_piece(
+    begun: &mut Begun,
+    gathering: &mut Gathering<'_>,
+    piece: &[u8],
+) -> Result<(), PeerFault>
+    requires few { length gathering.old.part ≤ 65535 }
+    requires fewer { length piece.now < begun.old.left }
+    ensures gathered { OnOk result (gathering.new.part ≡ gathering.old.part ++ piece.now) }
+    ensures left { OnOk result
+        (begun.new ≡ record begun.old { left = begun.old.left - length piece.now }) }
+    ensures fault { IfErr result (λ e. e ≡ Memory) }
+    ensures held { OnErr result (begun.new ≡ begun.old) }
+    ensures unchanged { OnErr result (gathering.new.part ≡ gathering.old.part) }
+    ensures table { gathering.new.table ≡ gathering.old.table }
+{
+    match gathering.gather(piece) {
+        Err(_) => Err(PeerFault::Memory),
+        Ok(()) => {
+            begun.left -= piece.len();
+            Ok(())
+        }
+    }
+}
+
 /// Takes bytes of a body, and answers it where they are its last.
 fn take_body(
     table: &Table,
@@ -260,29 +305,16 @@ fn take_body(
 {
     // the law that a header and fewer bytes than it counts need more, for the prover
     splits_once();
-    let left = begun.left;
-    if bytes.len() < left {
-        return match gathering.gather(bytes) {
-            Err(_) => Err(PeerFault::Memory),
-            Ok(()) => {
-                begun.left = left - bytes.len();
-                Ok(Step {
-                    used: bytes.len(),
-                    ended: false,
-                })
-            }
-        };
-    }
-    let last = &bytes[..left];
+    let Some(last) = bytes.get(..begun.left) else {
+        hold_piece(begun, gathering, bytes)?;
+        return Ok(Step::inside(bytes.len()));
+    };
     match answer_last(table, header, gathering, issuer, rooms, last, out, told) {
         Err(_) => Err(PeerFault::Memory),
         Ok(()) => {
             gathering.clear();
             *begun = NOT_BEGUN;
-            Ok(Step {
-                used: left,
-                ended: true,
-            })
+            Ok(Step::ending(last.len()))
         }
     }
 }

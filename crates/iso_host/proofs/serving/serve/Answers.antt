@@ -1,4 +1,5 @@
 use Rattle.std.proofs.Common.{◌≡◌, [], Err, ℕ, refl, sym, ◌∙◌, ap, arith, inl}
+use Rattle.std.proofs.lemmas.Result.{err_from_is_err_and}
 use Rattle.iso_host.specs.Answering.{SpendsOnWrite}
 use Rattle.iso_host.specs.Counts.{Counts, Usage, stream, usage}
 use Rattle.iso_host.specs.Hosting.{replying}
@@ -67,43 +68,46 @@ frames-init g c =
       running = record { calls = omega arith; moved = omega arith; reader = refl; writer = refl };
     }
 
-pub returns-in-Err-clause-leaves : goal.returns-in-Err-clause-leaves
-returns-in-Err-clause-leaves g c =
+pub returns-in_err-next_frame-clause-leaves : goal.returns-in_err-next_frame-clause-leaves
+returns-in_err-next_frame-clause-leaves g c =
+    let exit = err_from_is_err_and c.from_residual.result c.from_residual.ensures.1 in
     let laws = c.splits_once.ensures in
     let before = taking (reading c.frames.line.window (stream (g.R.Inlet.remaining c.frames.reader) (g.R.Inlet.counts c.frames.reader)) c.frames.left) (replying c.frames.issuer []) in
-    let after = taking (reading c.next_frame-read.new.line.window (stream (g.R.Inlet.remaining c.next_frame-read.new.reader) (g.R.Inlet.counts c.next_frame-read.new.reader)) c.next_frame-read.new.left) (replying c.next_frame-read.new.issuer []) in
-    stop_before _ _ _ _ c.frames.invariant.going c.firsts_go_on.ensures laws.bad laws.stays before after c.in-Err.fault c.in-Err.ensures.bytes refl refl
+    let after = taking (reading c.next_frame.new.line.window (stream (g.R.Inlet.remaining c.next_frame.new.reader) (g.R.Inlet.counts c.next_frame.new.reader)) c.next_frame.new.left) (replying c.next_frame.new.issuer []) in
+    rw (exit.1, exit.2) (stop_before _ _ _ _ c.frames.invariant.going c.firsts_go_on.ensures laws.bad laws.stays before after c.in_err-next_frame.field-0.0 c.in_err-next_frame.ensures.bytes refl refl)
 
-pub returns-then-not-is_taken-clause-leaves : goal.returns-then-not-is_taken-clause-leaves
-returns-then-not-is_taken-clause-leaves g c =
-    let end = rw c.if-not-is_taken.true at c.in-Ok.ensures.bytes in
+pub returns-then-not-branch-clause-leaves : goal.returns-then-not-branch-clause-leaves
+returns-then-not-branch-clause-leaves g c =
+    let end = rw c.if-not-branch.true at c.in_ok-next_frame.ensures.bytes in
     ends_whole _ _ _ _ c.frames.invariant.going _ _ _ end.0 end.1 end.2 end.3
 
-pub returns-in-Err-written-clause-leaves : goal.returns-in-Err-written-clause-leaves
-returns-in-Err-written-clause-leaves g c =
+pub returns-in_err-write_answer-clause-leaves : goal.returns-in_err-write_answer-clause-leaves
+returns-in_err-write_answer-clause-leaves g c =
+    let exit = err_from_is_err_and c.from_residual-in_err-write_answer.result c.from_residual-in_err-write_answer.ensures.1 in
     let so = c.frames.invariant in
-    let frame = rw c.if-not-is_taken.false at c.in-Ok.ensures.bytes in
-    let e = c.in-Err-written.ensures in
+    let frame = rw c.if-not-branch.false at c.in_ok-next_frame.ensures.bytes in
+    let e = c.in_err-write_answer.ensures in
     let part = rw c.deref.ensures.value at e.written in
-    stop_at _ _ _ _ so.going c.firsts_go_on.ensures (Unit {0}) _ _ _ _ _ _ frame.0 c.in-Err-written.failed frame.1 frame.2
-    (written_part _ _ _ _ _ _ c.clear.ensures.items frame.3 part) e.spent
+    rw (exit.1, exit.2) (stop_at _ _ _ _ so.going c.firsts_go_on.ensures (Unit {0}) _ _ _ _ _ _ frame.0 c.in_err-write_answer.field-0.0 frame.1 frame.2
+    (written_part _ _ _ _ _ _ c.clear.ensures.items frame.3 part) e.spent)
 
-pub returns-in-Err-written-clause-flushed : goal.returns-in-Err-written-clause-flushed
-returns-in-Err-written-clause-flushed g c =
+pub returns-in_err-write_answer-clause-flushed : goal.returns-in_err-write_answer-clause-flushed
+returns-in_err-write_answer-clause-flushed g c =
+    let exit = err_from_is_err_and c.from_residual-in_err-write_answer.result c.from_residual-in_err-write_answer.ensures.1 in
     let so = c.frames.invariant in
-    let frame = rw c.if-not-is_taken.false at c.in-Ok.ensures.bytes in
-    let e = c.in-Err-written.ensures in
+    let frame = rw c.if-not-branch.false at c.in_ok-next_frame.ensures.bytes in
+    let e = c.in_err-write_answer.ensures in
     let part = rw c.deref.ensures.value at e.written in
-    waits_at _ _ _ _ so.going c.firsts_go_on.ensures (Unit {0}) _ _ _ _ _ _ frame.0 c.in-Err-written.failed frame.1 frame.2
-    (written_part _ _ _ _ _ _ c.clear.ensures.items frame.3 part) e.spent
+    rw (exit.1, exit.2) (waits_at _ _ _ _ so.going c.firsts_go_on.ensures (Unit {0}) _ _ _ _ _ _ frame.0 c.in_err-write_answer.field-0.0 frame.1 frame.2
+    (written_part _ _ _ _ _ _ c.clear.ensures.items frame.3 part) e.spent)
 
 pub frames-preserved : goal.frames-preserved
 frames-preserved g c =
     let so = c.frames.invariant in
-    let next = c.in-Ok.ensures in
-    let frame = rw c.if-not-is_taken.false at next.bytes in
-    let drawn = rw c.if-not-is_taken.false at next.spent in
-    let e = c.in-Ok-written.ensures in
+    let next = c.in_ok-next_frame.ensures in
+    let frame = rw c.if-not-branch.false at next.bytes in
+    let drawn = rw c.if-not-branch.false at next.spent in
+    let e = c.in_ok-write_answer.ensures in
     let appends = rw c.deref.ensures.value at e.written in
     let flushed = rw c.deref.ensures.value at e.flushed in
     record {
@@ -115,44 +119,47 @@ frames-preserved g c =
       running = running_write _ _ _ _ _ _ (running_read _ _ _ _ _ _ so.running next.turns drawn.spends) e.turns e.spent;
     }
 
-pub returns-in-Err-clause-cause : goal.returns-in-Err-clause-cause
-returns-in-Err-clause-cause g c =
+pub returns-in_err-next_frame-clause-cause : goal.returns-in_err-next_frame-clause-cause
+returns-in_err-next_frame-clause-cause g c =
+    let exit = err_from_is_err_and c.from_residual.result c.from_residual.ensures.1 in
     let first = reading c.frames.line.window (stream (g.R.Inlet.remaining c.frames.reader) (g.R.Inlet.counts c.frames.reader)) c.frames.left in
-    let last = reading c.next_frame-read.new.line.window (stream (g.R.Inlet.remaining c.next_frame-read.new.reader) (g.R.Inlet.counts c.next_frame-read.new.reader)) c.next_frame-read.new.left in
-    read_cause _ _ c.args.turns first last c.in-Err.fault c.frames.invariant.running refl c.in-Err.ensures.turns c.in-Err.ensures.spent
+    let last = reading c.next_frame.new.line.window (stream (g.R.Inlet.remaining c.next_frame.new.reader) (g.R.Inlet.counts c.next_frame.new.reader)) c.next_frame.new.left in
+    rw (exit.1, exit.2) (read_cause _ _ c.args.turns first last c.in_err-next_frame.field-0.0 c.frames.invariant.running refl c.in_err-next_frame.ensures.turns c.in_err-next_frame.ensures.spent)
 
-pub returns-in-Err-clause-flushed : goal.returns-in-Err-clause-flushed
-returns-in-Err-clause-flushed g c =
+pub returns-in_err-next_frame-clause-flushed : goal.returns-in_err-next_frame-clause-flushed
+returns-in_err-next_frame-clause-flushed g c =
+    let exit = err_from_is_err_and c.from_residual.result c.from_residual.ensures.1 in
     let first = reading c.frames.line.window (stream (g.R.Inlet.remaining c.frames.reader) (g.R.Inlet.counts c.frames.reader)) c.frames.left in
-    let last = reading c.next_frame-read.new.line.window (stream (g.R.Inlet.remaining c.next_frame-read.new.reader) (g.R.Inlet.counts c.next_frame-read.new.reader)) c.next_frame-read.new.left in
-    still_flushed _ _ _ first last c.in-Err.fault (flushed_so _ _ _ c.frames.invariant.going.flushed) c.in-Err.ensures.spent
+    let last = reading c.next_frame.new.line.window (stream (g.R.Inlet.remaining c.next_frame.new.reader) (g.R.Inlet.counts c.next_frame.new.reader)) c.next_frame.new.left in
+    rw (exit.1, exit.2) (still_flushed _ _ _ first last c.in_err-next_frame.field-0.0 (flushed_so _ _ _ c.frames.invariant.going.flushed) c.in_err-next_frame.ensures.spent)
 
-pub returns-in-Err-clause-turns : goal.returns-in-Err-clause-turns
-returns-in-Err-clause-turns g c =
-    within _ _ (g.R.Inlet.counts c.next_frame-read.new.reader) (g.W.Outlet.counts c.frames.writer) c.args.turns c.frames.left c.next_frame-read.new.left c.next_frame-read.new.left c.frames.invariant.running
-    c.in-Err.ensures.turns refl
+pub returns-in_err-next_frame-clause-turns : goal.returns-in_err-next_frame-clause-turns
+returns-in_err-next_frame-clause-turns g c =
+    within _ _ (g.R.Inlet.counts c.next_frame.new.reader) (g.W.Outlet.counts c.frames.writer) c.args.turns c.frames.left c.next_frame.new.left c.next_frame.new.left c.frames.invariant.running
+    c.in_err-next_frame.ensures.turns refl
 
-pub returns-then-not-is_taken-clause-cause : goal.returns-then-not-is_taken-clause-cause
-returns-then-not-is_taken-clause-cause g c =
-    let drawn = rw c.if-not-is_taken.true at c.in-Ok.ensures.spent in
+pub returns-then-not-branch-clause-cause : goal.returns-then-not-branch-clause-cause
+returns-then-not-branch-clause-cause g c =
+    let drawn = rw c.if-not-branch.true at c.in_ok-next_frame.ensures.spent in
     record { reader = drawn ∙ c.frames.invariant.running.reader; writer = c.frames.invariant.running.writer }
 
-pub returns-then-not-is_taken-clause-flushed : goal.returns-then-not-is_taken-clause-flushed
-returns-then-not-is_taken-clause-flushed g c = flushed_so _ _ _ c.frames.invariant.going.flushed
+pub returns-then-not-branch-clause-flushed : goal.returns-then-not-branch-clause-flushed
+returns-then-not-branch-clause-flushed g c = flushed_so _ _ _ c.frames.invariant.going.flushed
 
-pub returns-then-not-is_taken-clause-turns : goal.returns-then-not-is_taken-clause-turns
-returns-then-not-is_taken-clause-turns g c =
-    within _ _ (g.R.Inlet.counts c.next_frame-read.new.reader) (g.W.Outlet.counts c.frames.writer) c.args.turns c.frames.left c.next_frame-read.new.left c.next_frame-read.new.left c.frames.invariant.running
-    c.in-Ok.ensures.turns refl
+pub returns-then-not-branch-clause-turns : goal.returns-then-not-branch-clause-turns
+returns-then-not-branch-clause-turns g c =
+    within _ _ (g.R.Inlet.counts c.next_frame.new.reader) (g.W.Outlet.counts c.frames.writer) c.args.turns c.frames.left c.next_frame.new.left c.next_frame.new.left c.frames.invariant.running
+    c.in_ok-next_frame.ensures.turns refl
 
-pub returns-in-Err-written-clause-cause : goal.returns-in-Err-written-clause-cause
-returns-in-Err-written-clause-cause g c =
-    let next = c.in-Ok.ensures in
-    let drawn = rw c.if-not-is_taken.false at next.spent in
-    write_cause _ _ (g.W.Outlet.counts c.write_answer-written.new.writer) c.args.turns c.next_frame-read.new.left c.write_answer-written.new.left c.in-Err-written.failed
-    (running_read _ _ _ _ _ _ c.frames.invariant.running next.turns drawn.spends) c.in-Err-written.ensures.turns c.in-Err-written.ensures.spent
+pub returns-in_err-write_answer-clause-cause : goal.returns-in_err-write_answer-clause-cause
+returns-in_err-write_answer-clause-cause g c =
+    let exit = err_from_is_err_and c.from_residual-in_err-write_answer.result c.from_residual-in_err-write_answer.ensures.1 in
+    let next = c.in_ok-next_frame.ensures in
+    let drawn = rw c.if-not-branch.false at next.spent in
+    rw (exit.1, exit.2) (write_cause _ _ (g.W.Outlet.counts c.write_answer.new.writer) c.args.turns c.next_frame.new.left c.write_answer.new.left c.in_err-write_answer.field-0.0
+    (running_read _ _ _ _ _ _ c.frames.invariant.running next.turns drawn.spends) c.in_err-write_answer.ensures.turns c.in_err-write_answer.ensures.spent)
 
-pub returns-in-Err-written-clause-turns : goal.returns-in-Err-written-clause-turns
-returns-in-Err-written-clause-turns g c =
-    within _ _ (g.R.Inlet.counts c.next_frame-read.new.reader) (g.W.Outlet.counts c.write_answer-written.new.writer) c.args.turns c.frames.left c.next_frame-read.new.left c.write_answer-written.new.left
-    c.frames.invariant.running c.in-Ok.ensures.turns c.in-Err-written.ensures.turns
+pub returns-in_err-write_answer-clause-turns : goal.returns-in_err-write_answer-clause-turns
+returns-in_err-write_answer-clause-turns g c =
+    within _ _ (g.R.Inlet.counts c.next_frame.new.reader) (g.W.Outlet.counts c.write_answer.new.writer) c.args.turns c.frames.left c.next_frame.new.left c.write_answer.new.left
+    c.frames.invariant.running c.in_ok-next_frame.ensures.turns c.in_err-write_answer.ensures.turns
