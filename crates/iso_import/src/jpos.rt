@@ -81,6 +81,21 @@ fn take_front(imported: &mut Imported, number: u16, class: &str) -> bool {
     true
 }
 
+/// The row of a field whose place in the table is free, or why it has none.
+fn free_row(
+    imported: &Imported,
+    tag: &str,
+    number: u16,
+    bytes: Bytes,
+) -> Result<FieldSpec, &'static str> {
+    match number {
+        0 | 1 => Err("the type or the bitmaps aren't written so"),
+        65 | 129.. => Err("no table has a row of this number"),
+        _ if imported.has(number) => Err("an earlier field has this number"),
+        _ => row_of(tag, number, bytes),
+    }
+}
+
 /// Takes a field of a number.
 fn take_numbered(
     alloc: Global,
@@ -90,24 +105,10 @@ fn take_numbered(
     bytes: Bytes,
 ) -> Result<(), AllocError> {
     let (class, id) = (class_of(tag), attribute(tag, "id").unwrap_or(""));
-    if number < 2 {
-        if take_front(imported, number, class) {
-            return Ok(());
-        }
-        return imported.leave(
-            alloc,
-            id,
-            class,
-            "the type or the bitmaps aren't written so",
-        );
+    if take_front(imported, number, class) {
+        return Ok(());
     }
-    if number == 65 || number > 128 {
-        return imported.leave(alloc, id, class, "no table has a row of this number");
-    }
-    if imported.has(number) {
-        return imported.leave(alloc, id, class, "an earlier field has this number");
-    }
-    match row_of(tag, number, bytes) {
+    match free_row(imported, tag, number, bytes) {
         Ok(spec) => imported.add(number, spec),
         Err(why) => imported.leave(alloc, id, class, why),
     }

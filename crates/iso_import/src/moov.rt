@@ -100,6 +100,15 @@ fn take_front(imported: &mut Imported, number: u16, encoding: &str) -> bool {
     true
 }
 
+/// The row of a field of a number, or why it has none.
+fn numbered_row(number: u16, field: &Value) -> Result<FieldSpec, &'static str> {
+    match number {
+        0 | 1 => Err("the type or the bitmaps aren't written so"),
+        65 | 129.. => Err("no table has a row of this number"),
+        _ => row_of(field),
+    }
+}
+
 /// Takes a field.
 fn take_field(
     alloc: Global,
@@ -111,21 +120,10 @@ fn take_field(
     let Ok(number) = key.parse::<u16>() else {
         return imported.leave(alloc, key, what, "its key is no number");
     };
-    if number < 2 {
-        if take_front(imported, number, text_at(field, "enc")) {
-            return Ok(());
-        }
-        return imported.leave(
-            alloc,
-            key,
-            what,
-            "the type or the bitmaps aren't written so",
-        );
+    if take_front(imported, number, text_at(field, "enc")) {
+        return Ok(());
     }
-    if number == 65 || number > 128 {
-        return imported.leave(alloc, key, what, "no table has a row of this number");
-    }
-    match row_of(field) {
+    match numbered_row(number, field) {
         Ok(spec) => imported.add(number, spec),
         Err(why) => imported.leave(alloc, key, what, why),
     }

@@ -1,6 +1,6 @@
 //! Hexadecimal digits in any spacing.
 
-ghost use Rattle.std.specs.Prelude.{◌≡◌, ◌≢◌, ◌+◌, ◌<◌, ◌^◌, length, take, Ok, Err, IfSome, OnOk, OnErr, IfErr};
+ghost use Rattle.std.specs.Prelude.{◌≡◌, ◌≢◌, ◌+◌, ◌<◌, ◌^◌, length, take, Some, None, Ok, Err, IfSome, IfOk, OnOk, OnErr, IfErr};
 ghost use Rattle.hex.specs.Hex.{hex_digit_value};
 ghost use Rattle.iso_input.specs.Digits.{is_spacing, after, bytes_at};
 
@@ -27,6 +27,24 @@ fn is_spacing(byte: u8) -> bool
     matches!(byte, b' ' | b'\t' | b'\n' | b'\r' | b',' | b':')
 }
 
+/// The digit at a place.
+fn digit_at(place: Place, byte: u8) -> Result<Digit, HexFault>
+    ensures digit { IfOk result
+        (λ digit. (hex_digit_value byte ≡ Some digit.value) × (digit.place ≡ place)) }
+    ensures small { IfOk result (λ digit. digit.value < 16) }
+    ensures fault { IfErr result (λ e. (hex_digit_value byte ≡ None)
+        × (e ≡ HexFault.NotDigit place.line place.column byte)) }
+{
+    match digit_value(byte) {
+        Some(value) => Ok(Digit { value, place }),
+        None => Err(HexFault::NotDigit {
+            line: place.line,
+            column: place.column,
+            byte,
+        }),
+    }
+}
+
 /// Appends the bytes that the digits of a text write, of which the first byte stands at the place. On a fault what was
 /// there is still in front.
 pub(crate) fn append_digits(place: Place, text: &[u8], out: &mut Vec<u8>) -> Result<(), HexFault>
@@ -45,17 +63,11 @@ pub(crate) fn append_digits(place: Place, text: &[u8], out: &mut Vec<u8>) -> Res
         if is_spacing(*byte) {
             continue;
         }
-        let Some(value) = digit_value(*byte) else {
-            return Err(HexFault::NotDigit {
-                line: here.line,
-                column: here.column,
-                byte: *byte,
-            });
-        };
+        let digit = digit_at(here, *byte)?;
         match half {
-            None => half = Some(Digit { value, place: here }),
+            None => half = Some(digit),
             Some(high) => {
-                out.push(16 * high.value + value)?;
+                out.push(16 * high.value + digit.value)?;
                 half = None;
             }
         }

@@ -216,7 +216,19 @@ fn line_value(
     value_of(alloc, table, n, text)
 }
 
-impl Lines<'_> {
+impl<'a> Lines<'a> {
+    /// None yet, of a message of this type.
+    fn new(alloc: Global, table: &'a Table, mti: Mti, complaints: Vec<Complaint>) -> Lines<'a> {
+        Lines {
+            table,
+            message: Message::new(alloc, mti),
+            complaints,
+            has_type: false,
+            seen: Bitmap::new(),
+            has_ended: false,
+        }
+    }
+
     /// Reads a line that isn't refused as a whole.
     fn take(&mut self, alloc: Global, place: Place, said: Said<'_>) -> Result<(), AllocError> {
         match said {
@@ -257,14 +269,7 @@ fn read_lines(
     complaints: Vec<Complaint>,
     text: &[u8],
 ) -> Result<Message, Refusal> {
-    let mut lines = Lines {
-        table,
-        message: Message::new(alloc, mti),
-        complaints,
-        has_type: false,
-        seen: Bitmap::new(),
-        has_ended: false,
-    };
+    let mut lines = Lines::new(alloc, table, mti, complaints);
     let mut rest = text;
     let mut at = 0usize;
     while !rest.is_empty() {

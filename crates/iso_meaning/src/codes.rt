@@ -69,9 +69,9 @@ fn amount_of(number: u8) -> Option<&'static str>
     }
 }
 
-/// The meaning of a response code's number below 30.
-fn response_below_30(number: u8) -> Option<&'static str>
-    ensures { is_some result ≡ nat_le number 29 }
+/// The meaning of a response code's number below 20.
+fn response_below_20(number: u8) -> Option<&'static str>
+    ensures { is_some result ≡ nat_le number 19 }
 {
     match number {
         0 => Some("Approved"),
@@ -94,6 +94,15 @@ fn response_below_30(number: u8) -> Option<&'static str>
         17 => Some("Customer cancellation"),
         18 => Some("Customer dispute"),
         19 => Some("Re-enter transaction"),
+        _ => None,
+    }
+}
+
+/// The meaning of a response code's number from 20 to 39.
+fn response_below_40(number: u8) -> Option<&'static str>
+    ensures { is_some result ≡ is_from 20 39 number }
+{
+    match number {
         20 => Some("Invalid response"),
         21 => Some("No action taken"),
         22 => Some("Suspected malfunction"),
@@ -104,15 +113,6 @@ fn response_below_30(number: u8) -> Option<&'static str>
         27 => Some("File update field edit error"),
         28 => Some("File update file locked out"),
         29 => Some("File update not successful, contact acquirer"),
-        _ => None,
-    }
-}
-
-/// The meaning of a response code's number from 30 to 59.
-fn response_below_60(number: u8) -> Option<&'static str>
-    ensures { is_some result ≡ (is_from 30 44 number || is_from 51 59 number) }
-{
-    match number {
         30 => Some("Format error"),
         31 => Some("Bank not supported by switch"),
         32 => Some("Completed partially"),
@@ -123,6 +123,15 @@ fn response_below_60(number: u8) -> Option<&'static str>
         37 => Some("Card acceptor call acquirer security, pick up"),
         38 => Some("Allowable PIN tries exceeded, pick up"),
         39 => Some("No credit account"),
+        _ => None,
+    }
+}
+
+/// The meaning of a response code's number from 40 to 59.
+fn response_below_60(number: u8) -> Option<&'static str>
+    ensures { is_some result ≡ (is_from 40 44 number || is_from 51 59 number) }
+{
+    match number {
         40 => Some("Requested function not supported"),
         41 => Some("Lost card, pick up"),
         42 => Some("No universal account"),
@@ -172,8 +181,9 @@ fn response_of(number: u8) -> Option<&'static str>
     ensures { is_some result ≡ is_response number }
 {
     match number {
-        0..=29 => response_below_30(number),
-        30..=59 => response_below_60(number),
+        0..=19 => response_below_20(number),
+        20..=39 => response_below_40(number),
+        40..=59 => response_below_60(number),
         _ => response_from_60(number),
     }
 }

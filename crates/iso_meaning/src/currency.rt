@@ -25,8 +25,8 @@ fn three_digits(code: &[u8]) -> Option<u16>
     }
 }
 
-/// The letters of a number below 200.
-fn letters_below_200(number: u16) -> Option<&'static str>
+/// The letters of a number below 100.
+fn letters_below_100(number: u16) -> Option<&'static str>
     ensures { IfSome result (λ letters. IsTrue (is_alphabetic letters.now)) }
 {
     match number {
@@ -46,6 +46,15 @@ fn letters_below_200(number: u16) -> Option<&'static str>
         84 => Some("BZD"),
         90 => Some("SBD"),
         96 => Some("BND"),
+        _ => None,
+    }
+}
+
+/// The letters of a number from 100 to 199.
+fn letters_below_200(number: u16) -> Option<&'static str>
+    ensures { IfSome result (λ letters. IsTrue (is_alphabetic letters.now)) }
+{
+    match number {
         104 => Some("MMK"),
         108 => Some("BIF"),
         116 => Some("KHR"),
@@ -63,8 +72,8 @@ fn letters_below_200(number: u16) -> Option<&'static str>
     }
 }
 
-/// The letters of a number from 200 to 399.
-fn letters_below_400(number: u16) -> Option<&'static str>
+/// The letters of a number from 200 to 299.
+fn letters_below_300(number: u16) -> Option<&'static str>
     ensures { IfSome result (λ letters. IsTrue (is_alphabetic letters.now)) }
 {
     match number {
@@ -79,6 +88,15 @@ fn letters_below_400(number: u16) -> Option<&'static str>
         262 => Some("DJF"),
         270 => Some("GMD"),
         292 => Some("GIP"),
+        _ => None,
+    }
+}
+
+/// The letters of a number from 300 to 399.
+fn letters_below_400(number: u16) -> Option<&'static str>
+    ensures { IfSome result (λ letters. IsTrue (is_alphabetic letters.now)) }
+{
+    match number {
         320 => Some("GTQ"),
         324 => Some("GNF"),
         328 => Some("GYD"),
@@ -99,8 +117,8 @@ fn letters_below_400(number: u16) -> Option<&'static str>
     }
 }
 
-/// The letters of a number from 400 to 599.
-fn letters_below_600(number: u16) -> Option<&'static str>
+/// The letters of a number from 400 to 499.
+fn letters_below_500(number: u16) -> Option<&'static str>
     ensures { IfSome result (λ letters. IsTrue (is_alphabetic letters.now)) }
 {
     match number {
@@ -123,6 +141,15 @@ fn letters_below_600(number: u16) -> Option<&'static str>
         484 => Some("MXN"),
         496 => Some("MNT"),
         498 => Some("MDL"),
+        _ => None,
+    }
+}
+
+/// The letters of a number from 500 to 599.
+fn letters_below_600(number: u16) -> Option<&'static str>
+    ensures { IfSome result (λ letters. IsTrue (is_alphabetic letters.now)) }
+{
+    match number {
         504 => Some("MAD"),
         512 => Some("OMR"),
         516 => Some("NAD"),
@@ -141,8 +168,8 @@ fn letters_below_600(number: u16) -> Option<&'static str>
     }
 }
 
-/// The letters of a number from 600 to 899.
-fn letters_below_900(number: u16) -> Option<&'static str>
+/// The letters of a number from 600 to 699.
+fn letters_below_700(number: u16) -> Option<&'static str>
     ensures { IfSome result (λ letters. IsTrue (is_alphabetic letters.now)) }
 {
     match number {
@@ -155,6 +182,15 @@ fn letters_below_900(number: u16) -> Option<&'static str>
         654 => Some("SHP"),
         682 => Some("SAR"),
         690 => Some("SCR"),
+        _ => None,
+    }
+}
+
+/// The letters of a number from 700 to 799.
+fn letters_below_800(number: u16) -> Option<&'static str>
+    ensures { IfSome result (λ letters. IsTrue (is_alphabetic letters.now)) }
+{
+    match number {
         702 => Some("SGD"),
         704 => Some("VND"),
         706 => Some("SOS"),
@@ -169,6 +205,15 @@ fn letters_below_900(number: u16) -> Option<&'static str>
         780 => Some("TTD"),
         784 => Some("AED"),
         788 => Some("TND"),
+        _ => None,
+    }
+}
+
+/// The letters of a number from 800 to 899.
+fn letters_below_900(number: u16) -> Option<&'static str>
+    ensures { IfSome result (λ letters. IsTrue (is_alphabetic letters.now)) }
+{
+    match number {
         800 => Some("UGX"),
         807 => Some("MKD"),
         818 => Some("EGP"),
@@ -183,8 +228,8 @@ fn letters_below_900(number: u16) -> Option<&'static str>
     }
 }
 
-/// The letters of a number from 900 to 959.
-fn letters_below_960(number: u16) -> Option<&'static str>
+/// The letters of a number from 900 to 949.
+fn letters_below_950(number: u16) -> Option<&'static str>
     ensures { IfSome result (λ letters. IsTrue (is_alphabetic letters.now)) }
 {
     match number {
@@ -208,6 +253,15 @@ fn letters_below_960(number: u16) -> Option<&'static str>
         947 => Some("CHE"),
         948 => Some("CHW"),
         949 => Some("TRY"),
+        _ => None,
+    }
+}
+
+/// The letters of a number from 950 to 969.
+fn letters_below_970(number: u16) -> Option<&'static str>
+    ensures { IfSome result (λ letters. IsTrue (is_alphabetic letters.now)) }
+{
+    match number {
         950 => Some("XAF"),
         951 => Some("XCD"),
         952 => Some("XOF"),
@@ -217,15 +271,6 @@ fn letters_below_960(number: u16) -> Option<&'static str>
         957 => Some("XBC"),
         958 => Some("XBD"),
         959 => Some("XAU"),
-        _ => None,
-    }
-}
-
-/// The letters of a number from 960 on.
-fn letters_from_960(number: u16) -> Option<&'static str>
-    ensures { IfSome result (λ letters. IsTrue (is_alphabetic letters.now)) }
-{
-    match number {
         960 => Some("XDR"),
         961 => Some("XAG"),
         962 => Some("XPT"),
@@ -235,6 +280,15 @@ fn letters_from_960(number: u16) -> Option<&'static str>
         967 => Some("ZMW"),
         968 => Some("SRD"),
         969 => Some("MGA"),
+        _ => None,
+    }
+}
+
+/// The letters of a number from 970 on.
+fn letters_from_970(number: u16) -> Option<&'static str>
+    ensures { IfSome result (λ letters. IsTrue (is_alphabetic letters.now)) }
+{
+    match number {
         970 => Some("COU"),
         971 => Some("AFN"),
         972 => Some("TJS"),
@@ -262,12 +316,18 @@ fn letters_of(number: u16) -> Option<&'static str>
     ensures { IfSome result (λ letters. IsTrue (is_alphabetic letters.now)) }
 {
     match number {
-        0..=199 => letters_below_200(number),
-        200..=399 => letters_below_400(number),
-        400..=599 => letters_below_600(number),
-        600..=899 => letters_below_900(number),
-        900..=959 => letters_below_960(number),
-        _ => letters_from_960(number),
+        0..=99 => letters_below_100(number),
+        100..=199 => letters_below_200(number),
+        200..=299 => letters_below_300(number),
+        300..=399 => letters_below_400(number),
+        400..=499 => letters_below_500(number),
+        500..=599 => letters_below_600(number),
+        600..=699 => letters_below_700(number),
+        700..=799 => letters_below_800(number),
+        800..=899 => letters_below_900(number),
+        900..=949 => letters_below_950(number),
+        950..=969 => letters_below_970(number),
+        _ => letters_from_970(number),
     }
 }
 

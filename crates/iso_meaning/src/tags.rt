@@ -25,9 +25,9 @@ fn of_application(tag: u8) -> Option<&'static str>
     }
 }
 
-/// The name of a tag of one byte of the context-specific class: from 80 on.
-fn of_context(tag: u8) -> Option<&'static str>
-    ensures { is_some result ≡ (is_short tag && nat_le 128 tag) }
+/// The name of a tag of one byte from 80 to 8F.
+fn to_8f(tag: u8) -> Option<&'static str>
+    ensures { is_some result ≡ (is_short tag && nat_le 128 tag && nat_le tag 143) }
 {
     match tag {
         0x80 => Some("Response message template format 1"),
@@ -44,6 +44,15 @@ fn of_context(tag: u8) -> Option<&'static str>
         0x8D => Some("Card risk management data object list 2 (CDOL2)"),
         0x8E => Some("Cardholder verification method (CVM) list"),
         0x8F => Some("Certification authority public key index"),
+        _ => None,
+    }
+}
+
+/// The name of a tag of one byte from 90 on.
+fn from_90(tag: u8) -> Option<&'static str>
+    ensures { is_some result ≡ (is_short tag && nat_le 144 tag) }
+{
+    match tag {
         0x90 => Some("Issuer public key certificate"),
         0x91 => Some("Issuer authentication data"),
         0x92 => Some("Issuer public key remainder"),
@@ -66,10 +75,10 @@ fn of_context(tag: u8) -> Option<&'static str>
 fn short(tag: u8) -> Option<&'static str>
     ensures { is_some result ≡ is_short tag }
 {
-    if tag < 0x80 {
-        of_application(tag)
-    } else {
-        of_context(tag)
+    match tag {
+        0..=0x7F => of_application(tag),
+        0x80..=0x8F => to_8f(tag),
+        _ => from_90(tag),
     }
 }
 
@@ -96,9 +105,9 @@ fn behind_5f(tag: u8) -> Option<&'static str>
     }
 }
 
-/// The name of a tag from 9F00 to 9F1F, by its second byte.
-fn to_9f1f(tag: u8) -> Option<&'static str>
-    ensures { is_some result ≡ (is_behind_9f tag && nat_le tag 31) }
+/// The name of a tag from 9F00 to 9F0F, by its second byte.
+fn to_9f0f(tag: u8) -> Option<&'static str>
+    ensures { is_some result ≡ (is_behind_9f tag && nat_le tag 15) }
 {
     match tag {
         0x01 => Some("Acquirer identifier"),
@@ -114,6 +123,15 @@ fn to_9f1f(tag: u8) -> Option<&'static str>
         0x0D => Some("Issuer action code, default"),
         0x0E => Some("Issuer action code, denial"),
         0x0F => Some("Issuer action code, online"),
+        _ => None,
+    }
+}
+
+/// The name of a tag from 9F10 to 9F1F, by its second byte.
+fn to_9f1f(tag: u8) -> Option<&'static str>
+    ensures { is_some result ≡ (is_behind_9f tag && nat_le 16 tag && nat_le tag 31) }
+{
+    match tag {
         0x10 => Some("Issuer application data"),
         0x11 => Some("Issuer code table index"),
         0x12 => Some("Application preferred name"),
@@ -133,9 +151,9 @@ fn to_9f1f(tag: u8) -> Option<&'static str>
     }
 }
 
-/// The name of a tag from 9F20 on, by its second byte.
-fn from_9f20(tag: u8) -> Option<&'static str>
-    ensures { is_some result ≡ (is_behind_9f tag && nat_le 32 tag) }
+/// The name of a tag from 9F20 to 9F3F, by its second byte.
+fn to_9f3f(tag: u8) -> Option<&'static str>
+    ensures { is_some result ≡ (is_behind_9f tag && nat_le 32 tag && nat_le tag 63) }
 {
     match tag {
         0x20 => Some("Track 2 discretionary data"),
@@ -152,6 +170,15 @@ fn from_9f20(tag: u8) -> Option<&'static str>
         0x39 => Some("Point of service (POS) entry mode"),
         0x3A => Some("Amount, reference currency"),
         0x3C => Some("Transaction reference currency code"),
+        _ => None,
+    }
+}
+
+/// The name of a tag from 9F40 on, by its second byte.
+fn from_9f40(tag: u8) -> Option<&'static str>
+    ensures { is_some result ≡ (is_behind_9f tag && nat_le 64 tag) }
+{
+    match tag {
         0x40 => Some("Additional terminal capabilities"),
         0x41 => Some("Transaction sequence counter"),
         0x42 => Some("Application currency code"),
@@ -176,10 +203,11 @@ fn from_9f20(tag: u8) -> Option<&'static str>
 fn behind_9f(tag: u8) -> Option<&'static str>
     ensures { is_some result ≡ is_behind_9f tag }
 {
-    if tag < 0x20 {
-        to_9f1f(tag)
-    } else {
-        from_9f20(tag)
+    match tag {
+        0..=0x0F => to_9f0f(tag),
+        0x10..=0x1F => to_9f1f(tag),
+        0x20..=0x3F => to_9f3f(tag),
+        _ => from_9f40(tag),
     }
 }
 

@@ -3,9 +3,9 @@
 ghost use Rattle.std.specs.Prelude.{◌≡◌, is_some, nat_le, ◌&&◌};
 ghost use Rattle.iso_parts.specs.Numbers.{is_element};
 
-/// The name of an element from 2 to 32.
-fn first(element: u8) -> Option<&'static str>
-    ensures { is_some result ≡ (nat_le 2 element && nat_le element 32) }
+/// The name of an element from 2 to 16.
+fn to_16(element: u8) -> Option<&'static str>
+    ensures { is_some result ≡ (nat_le 2 element && nat_le element 16) }
 {
     match element {
         2 => Some("Primary account number (PAN)"),
@@ -23,6 +23,15 @@ fn first(element: u8) -> Option<&'static str>
         14 => Some("Date, expiration"),
         15 => Some("Date, settlement"),
         16 => Some("Date, conversion"),
+        _ => None,
+    }
+}
+
+/// The name of an element from 17 to 32.
+fn to_32(element: u8) -> Option<&'static str>
+    ensures { is_some result ≡ (nat_le 17 element && nat_le element 32) }
+{
+    match element {
         17 => Some("Date, capture"),
         18 => Some("Merchant type"),
         19 => Some("Acquiring institution country code"),
@@ -43,9 +52,9 @@ fn first(element: u8) -> Option<&'static str>
     }
 }
 
-/// The name of an element from 33 to 64.
-fn second(element: u8) -> Option<&'static str>
-    ensures { is_some result ≡ (nat_le 33 element && nat_le element 64) }
+/// The name of an element from 33 to 48.
+fn to_48(element: u8) -> Option<&'static str>
+    ensures { is_some result ≡ (nat_le 33 element && nat_le element 48) }
 {
     match element {
         33 => Some("Forwarding institution identification code"),
@@ -64,6 +73,15 @@ fn second(element: u8) -> Option<&'static str>
         46 => Some("Additional data, ISO"),
         47 => Some("Additional data, national"),
         48 => Some("Additional data, private"),
+        _ => None,
+    }
+}
+
+/// The name of an element from 49 to 64.
+fn to_64(element: u8) -> Option<&'static str>
+    ensures { is_some result ≡ (nat_le 49 element && nat_le element 64) }
+{
+    match element {
         49 => Some("Currency code, transaction"),
         50 => Some("Currency code, settlement"),
         51 => Some("Currency code, cardholder billing"),
@@ -79,9 +97,9 @@ fn second(element: u8) -> Option<&'static str>
     }
 }
 
-/// The name of an element from 66 to 96.
-fn third(element: u8) -> Option<&'static str>
-    ensures { is_some result ≡ (nat_le 66 element && nat_le element 96) }
+/// The name of an element from 66 to 80.
+fn to_80(element: u8) -> Option<&'static str>
+    ensures { is_some result ≡ (nat_le 66 element && nat_le element 80) }
 {
     match element {
         66 => Some("Settlement code"),
@@ -99,6 +117,15 @@ fn third(element: u8) -> Option<&'static str>
         78 => Some("Transfer, number"),
         79 => Some("Transfer, reversal number"),
         80 => Some("Inquiries, number"),
+        _ => None,
+    }
+}
+
+/// The name of an element from 81 to 96.
+fn to_96(element: u8) -> Option<&'static str>
+    ensures { is_some result ≡ (nat_le 81 element && nat_le element 96) }
+{
+    match element {
         81 => Some("Authorizations, number"),
         82 => Some("Credits, processing fee amount"),
         83 => Some("Credits, transaction fee amount"),
@@ -120,7 +147,7 @@ fn third(element: u8) -> Option<&'static str>
 }
 
 /// The name of an element from 97 to 128.
-fn fourth(element: u8) -> Option<&'static str>
+fn to_128(element: u8) -> Option<&'static str>
     ensures { is_some result ≡ (nat_le 97 element && nat_le element 128) }
 {
     match element {
@@ -146,9 +173,12 @@ pub fn name87(element: u8) -> Option<&'static str>
     ensures { is_some result ≡ is_element element }
 {
     match element {
-        0..=32 => first(element),
-        33..=64 => second(element),
-        65..=96 => third(element),
-        _ => fourth(element),
+        0..=16 => to_16(element),
+        17..=32 => to_32(element),
+        33..=48 => to_48(element),
+        49..=64 => to_64(element),
+        65..=80 => to_80(element),
+        81..=96 => to_96(element),
+        _ => to_128(element),
     }
 }
