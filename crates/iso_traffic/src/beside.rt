@@ -38,7 +38,7 @@ impl<S: Read + Write + Drop> Engine<'_, S> {
 
     /// The kind of the next transaction, as it is drawn.
     fn draw_kind(&mut self) -> Kind {
-        let draw = self.draw.amount(0, LAST_DRAW).min(LAST_DRAW) as u32;
+        let draw = self.chance.draw.amount(0, LAST_DRAW).min(LAST_DRAW) as u32;
         self.plan.mix.kind_of(draw)
     }
 
@@ -55,23 +55,19 @@ impl<S: Read + Write + Drop> Engine<'_, S> {
         let draft = Draft {
             place,
             money,
-            share: self.draw.amount(0, u64::MAX),
+            share: self.chance.draw.amount(0, u64::MAX),
             sent: now.sent,
             acquirer: self.plan.acquirer,
             highest: self.highest(driver),
         };
         self.fresh.reserve(1)?;
-        match self.sides.begin(kind, &draft, now.millis())? {
-            Some(order) => {
-                self.fresh.push(order)?;
-                add_one(&mut self.tally.begun);
-                Ok(true)
-            }
-            None => {
-                self.pace.count = 0;
-                Ok(false)
-            }
-        }
+        let Some(order) = self.sides.begin(kind, &draft, now.millis())? else {
+            self.pace.count = 0;
+            return Ok(false);
+        };
+        self.fresh.push(order)?;
+        add_one(&mut self.tally.begun);
+        Ok(true)
     }
 
     /// Begins a transaction of the kind that is drawn, on an account: whether it did.

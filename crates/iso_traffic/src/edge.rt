@@ -46,6 +46,14 @@ fn standing_of(stream: &TcpStream) -> Standing {
     }
 }
 
+/// The same of the connection at a place: where none was asked for, it waits for nothing.
+fn standing_at(lines: &mut Lines<TcpStream>, place: usize) -> Standing {
+    match lines.get_mut(place) {
+        Some(connection) if connection.state == State::Asked => standing_of(&connection.stream),
+        Some(_) | None => Standing::Waiting,
+    }
+}
+
 impl Edge {
     /// What a run waits with, for a host at an address.
     pub fn open<R: Net>(rt: &R, alloc: Global, address: SocketAddr) -> Result<Edge, TrafficFault> {
@@ -96,6 +104,18 @@ impl Edge {
         }
     }
 
+    /// Waits for events, for so many milliseconds at most: whether they are told. An interrupted wait tells none.
+    fn has_events(&mut self, pause: u64) -> Result<bool, TrafficFault> {
+        match self
+            .poll
+            .poll(&mut self.events, Some(Duration::from_millis(pause)))
+        {
+            Ok(()) => Ok(true),
+            Err(error) if error.kind() == ErrorKind::Interrupted => Ok(false),
+            Err(_) => Err(TrafficFault::Wait),
+        }
+    }
+
     /// Waits for events, for so many milliseconds at most, and marks the connections that they are of.
     pub fn wait(
         &mut self,
@@ -104,23 +124,12 @@ impl Edge {
         tally: &mut Tally,
         now: u64,
     ) -> Result<(), TrafficFault> {
-        match self
-            .poll
-            .poll(&mut self.events, Some(Duration::from_millis(pause)))
-        {
-            Ok(()) => {}
-            Err(error) if error.kind() == ErrorKind::Interrupted => return Ok(()),
-            Err(_) => return Err(TrafficFault::Wait),
+        if !self.has_events(pause)? {
+            return Ok(());
         }
         for event in &self.events {
             let Token(place) = event.token();
-            let stands = match lines.get_mut(place) {
-                Some(connection) if connection.state == State::Asked => standing_of(
-                    &connection.stream,
-                ),
-                Some(_) | None => Standing::Waiting,
-            };
-            match stands {
+            match standing_at(lines, place) {
                 Standing::Taken => lines.opens(place, tally),
                 Standing::Refused => {
                     add_one(&mut tally.refused);

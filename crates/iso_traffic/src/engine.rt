@@ -12,6 +12,28 @@ use iso_tally::{Latencies, Tally};
 use std::alloc::Global;
 use std::io::{Read, Write};
 
+/// What a run draws by chance.
+#[derive(Drop)]
+pub(crate) struct Chance {
+    /// What becomes of frames that go out.
+    pub going: Fates,
+    /// What becomes of answers that come in.
+    pub coming: Fates,
+    /// Accounts, amounts and kinds of transactions.
+    pub draw: Draw,
+}
+
+impl Chance {
+    /// What a plan's seed draws.
+    fn of(plan: &Plan<'_>) -> Chance {
+        Chance {
+            going: Fates::new(plan.seed, 1, plan.faults),
+            coming: Fates::new(plan.seed, 2, plan.faults),
+            draw: Draw::new(plan.seed),
+        }
+    }
+}
+
 /// The engine of a run, over connections on any streams. Its driver is handed in, and so are moments.
 #[derive(Drop)]
 pub(crate) struct Engine<'p, S> {
@@ -21,13 +43,9 @@ pub(crate) struct Engine<'p, S> {
     pub lines: Lines<S>,
     /// Room for a text that is read.
     pub text: Vec<u8>,
-    /// What becomes of frames that go out.
-    pub going: Fates,
-    /// What becomes of answers that come in.
-    pub coming: Fates,
+    pub chance: Chance,
     pub late: Late,
     pub sendings: Sendings,
-    pub draw: Draw,
     pub inquiries: Inquiries,
     /// What is asked beside purchases.
     pub sides: Sides,
@@ -55,6 +73,24 @@ pub(crate) fn orders_of(counts: &Counts) -> usize {
     begun.saturating_add(reversals.saturating_mul(2))
 }
 
+/// How a plan's transactions begin.
+fn pace_of(plan: &Plan<'_>) -> Pace {
+    Pace {
+        rate: plan.rate,
+        count: plan.count,
+        most_open: plan.most_open,
+        opening: 0,
+        closing: closing_moment(plan.seconds, plan.patience),
+    }
+}
+
+/// The counts of a run that goes on with so many open transactions.
+fn tally_of(open: usize) -> Tally {
+    let mut tally = Tally::NONE;
+    tally.resumed = open as u64;
+    tally
+}
+
 impl<'p, S: Read + Write + Drop> Engine<'p, S> {
     /// The engine of a plan, at the beginning of a run that goes on with what its driver has.
     pub fn new<L: NoteLog>(
@@ -63,25 +99,15 @@ impl<'p, S: Read + Write + Drop> Engine<'p, S> {
         driver: &Driver<L>,
     ) -> Result<Engine<'p, S>, TrafficFault> {
         let earlier = orders_of(&driver.counts());
-        let mut tally = Tally::NONE;
-        tally.resumed = driver.open() as u64;
         Ok(Engine {
             alloc,
             plan: *plan,
-            pace: Pace {
-                rate: plan.rate,
-                count: plan.count,
-                most_open: plan.most_open,
-                opening: 0,
-                closing: closing_moment(plan.seconds, plan.patience),
-            },
+            pace: pace_of(plan),
             lines: Lines::new(alloc, plan.peers)?,
             text: Vec::new(alloc),
-            going: Fates::new(plan.seed, 1, plan.faults),
-            coming: Fates::new(plan.seed, 2, plan.faults),
+            chance: Chance::of(plan),
             late: Late::new(alloc),
             sendings: Sendings::new(alloc, earlier)?,
-            draw: Draw::new(plan.seed),
             inquiries: Inquiries::none(alloc, plan.patience),
             sides: Sides::new(alloc, plan.patience),
             fresh: Vec::new(alloc),
@@ -89,7 +115,7 @@ impl<'p, S: Read + Write + Drop> Engine<'p, S> {
             before: Vec::new(alloc),
             frame: Vec::new(alloc),
             taken: Taken::new(alloc),
-            tally,
+            tally: tally_of(driver.open()),
             latencies: Latencies::new(alloc),
         })
     }

@@ -98,7 +98,7 @@ impl<S: Read + Write + Drop> Engine<'_, S> {
                     add_one(&mut self.tally.answers);
                     return Ok(false);
                 }
-                let fate = self.coming.next();
+                let fate = self.chance.coming.next();
                 self.hear_by(driver, &Came { told, digest }, fate, now)?;
                 Ok(fate.cuts)
             }
@@ -118,6 +118,18 @@ impl<S: Read + Write + Drop> Engine<'_, S> {
             }
         }
         Ok(false)
+    }
+
+    /// Closes the connection at a place and counts why, where it is cut, or a header can't be read.
+    fn end_at(&mut self, place: usize, is_cut: bool, is_bad: bool, now: Moment) {
+        if is_cut {
+            add_one(&mut self.tally.cut);
+        } else if is_bad {
+            add_one(&mut self.tally.bad_frames);
+        }
+        if is_cut || is_bad {
+            self.lines.drop_at(place, now.millis());
+        }
     }
 
     /// Takes the frames that came at a place, and what they told, in the lists that are lent. A header that can't be read closes
@@ -144,14 +156,7 @@ impl<S: Read + Write + Drop> Engine<'_, S> {
         )?;
         let is_cut = self.take_all(driver, taken, now)?;
         taken.clear();
-        if is_cut {
-            add_one(&mut self.tally.cut);
-        } else if is_bad {
-            add_one(&mut self.tally.bad_frames);
-        }
-        if is_cut || is_bad {
-            self.lines.drop_at(place, now.millis());
-        }
+        self.end_at(place, is_cut, is_bad, now);
         Ok(())
     }
 

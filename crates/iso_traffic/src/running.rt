@@ -50,6 +50,20 @@ fn moment<R: Clock>(rt: &R, began: u64) -> Result<Moment, TrafficFault> {
     })
 }
 
+/// How a run stands at a moment.
+fn standing_of_run<L: NoteLog>(
+    engine: &Engine<'_, TcpStream>,
+    driver: &Driver<L>,
+    goes: Moment,
+) -> Standing {
+    Standing {
+        is_closing: engine.is_closing(goes),
+        is_closed: driver.is_closed() && engine.sides.is_closed(),
+        checks: engine.plan.checks,
+        are_done: engine.inquiries.are_done(),
+    }
+}
+
 /// A run on its way.
 #[derive(Clone, Copy)]
 struct Course {
@@ -75,13 +89,7 @@ impl Course {
         let goes = moment(rt, self.began)?;
         engine.send_due(driver, goes)?;
         let before = self.stage;
-        let stands = Standing {
-            is_closing: engine.is_closing(goes),
-            is_closed: driver.is_closed() && engine.sides.is_closed(),
-            checks: engine.plan.checks,
-            are_done: engine.inquiries.are_done(),
-        };
-        self.stage = next_stage(before, &stands);
+        self.stage = next_stage(before, &standing_of_run(engine, driver, goes));
         if before == self.stage {
             return Ok(engine.pause(driver, goes));
         }
@@ -111,6 +119,31 @@ impl Course {
             );
         }
         Ok(now)
+    }
+
+    /// Takes one turn after the other until the run is over, or so many milliseconds are: how many microseconds it took.
+    fn go_on<R: Net + Clock, L: NoteLog, W: Watch>(
+        &mut self,
+        rt: &R,
+        edge: &mut Edge,
+        engine: &mut Engine<'_, TcpStream>,
+        driver: &mut Driver<L>,
+        watch: &mut W,
+        whole: u64,
+    ) -> Result<u64, TrafficFault> {
+        let mut micros = 0;
+        for _ in 0..u64::MAX {
+            let pause = self.turn(rt, edge, engine, driver)?;
+            let now = self.tell(rt, engine, driver, watch)?;
+            let millis = now.millis();
+            micros = now.micros;
+            if self.stage == Stage::Over || millis >= whole {
+                break;
+            }
+            let pause = pause.min(whole.saturating_sub(millis));
+            edge.wait(pause, &mut engine.lines, &mut engine.tally, millis)?;
+        }
+        Ok(micros)
     }
 }
 
@@ -194,28 +227,10 @@ fn run<R: Net + Clock, L: NoteLog, W: Watch>(
 ) -> Result<Outcome, TrafficFault> {
     let mut edge = Edge::open(rt, alloc, engine.plan.address)?;
     let waited = wait_for_second(rt, &mut edge, engine, driver)?;
-    let whole = engine
-        .plan
-        .seconds
-        .saturating_mul(1_000)
-        .saturating_sub(waited);
+    let time = engine.plan.seconds.saturating_mul(1_000);
     let mut course = begin(rt, engine, driver)?;
-    let mut micros = 0;
-    for _ in 0..u64::MAX {
-        let pause = course.turn(rt, &edge, engine, driver)?;
-        let now = course.tell(rt, engine, driver, watch)?;
-        micros = now.micros;
-        if course.stage == Stage::Over || now.millis() >= whole {
-            break;
-        }
-        let left = whole.saturating_sub(now.millis());
-        edge.wait(
-            pause.min(left),
-            &mut engine.lines,
-            &mut engine.tally,
-            now.millis(),
-        )?;
-    }
+    let whole = time.saturating_sub(waited);
+    let micros = course.go_on(rt, &mut edge, engine, driver, watch, whole)?;
     outcome_of(alloc, engine, driver, course.stage, micros)
 }
 

@@ -46,7 +46,7 @@ impl<S: Read + Write + Drop> Engine<'_, S> {
 
     /// A frame goes out as its fate says.
     fn go_by_fate(&mut self, frame: &[u8], now: Moment) -> Result<(), TrafficFault> {
-        let fate = self.going.next();
+        let fate = self.chance.going.next();
         match fate.comes {
             Comes::Never => {
                 add_one(&mut self.tally.lost);

@@ -71,8 +71,8 @@ impl<S: Read + Write + Drop> Engine<'_, S> {
         if count == 0 || least > most {
             return None;
         }
-        let place = self.draw.place(count);
-        let amount = self.draw.amount(least, most);
+        let place = self.chance.draw.place(count);
+        let amount = self.chance.draw.amount(least, most);
         let buyer = self.plan.buyers[place];
         let currency = buyer.currency;
         let money = Money {
