@@ -70,6 +70,18 @@ fn add_kind(line: &mut String, kind: Option<u16>) -> Result<(), AllocError> {
     }
 }
 
+/// Adds which event it is, of which connection, and the message type of its frame, where it is known.
+fn add_of_frame(
+    line: &mut String,
+    lines: &[Line<'_>],
+    event: &str,
+    (link, peer): (usize, u64),
+    kind: Option<u16>,
+) -> Result<(), AllocError> {
+    add_of_peer(line, lines, event, link, peer)?;
+    add_kind(line, kind)
+}
+
 /// Adds a key, but for its message type.
 fn add_key(line: &mut String, key: &TxKey) -> Result<(), AllocError> {
     let (stan, sent, acquirer) = (key.stan, key.sent, key.acquirer);
@@ -122,8 +134,7 @@ fn add_answered(line: &mut String, lines: &[Line<'_>], event: &Event) -> Result<
             entry,
             micros,
         } => {
-            add_of_peer(line, lines, "answered", link, peer)?;
-            add_kind(line, kind)?;
+            add_of_frame(line, lines, "answered", (link, peer), kind)?;
             add_key(line, &key)?;
             write!(
                 line,
@@ -144,8 +155,7 @@ fn add_reply(line: &mut String, lines: &[Line<'_>], event: &Event) -> Result<(),
             code,
             micros,
         } => {
-            add_of_peer(line, lines, "replied", link, peer)?;
-            add_kind(line, kind)?;
+            add_of_frame(line, lines, "replied", (link, peer), kind)?;
             write!(line, "\"code\":\"{code:02}\",\"micros\":{micros}}}\n")
         }
         Event::Foreign {
@@ -155,8 +165,7 @@ fn add_reply(line: &mut String, lines: &[Line<'_>], event: &Event) -> Result<(),
             key,
             micros,
         } => {
-            add_of_peer(line, lines, "foreign", link, peer)?;
-            add_kind(line, kind)?;
+            add_of_frame(line, lines, "foreign", (link, peer), kind)?;
             add_key(line, &key)?;
             write!(line, "\"code\":\"12\",\"micros\":{micros}}}\n")
         }
@@ -168,8 +177,7 @@ fn add_reply(line: &mut String, lines: &[Line<'_>], event: &Event) -> Result<(),
 fn add_unanswered(line: &mut String, lines: &[Line<'_>], event: &Event) -> Result<(), AllocError> {
     match *event {
         Event::Silent { link, peer, kind } => {
-            add_of_peer(line, lines, "silent", link, peer)?;
-            add_kind(line, kind)?;
+            add_of_frame(line, lines, "silent", (link, peer), kind)?;
             line.push_str("\"answered\":false}\n")
         }
         Event::Unreadable {
@@ -178,8 +186,7 @@ fn add_unanswered(line: &mut String, lines: &[Line<'_>], event: &Event) -> Resul
             kind,
             fault,
         } => {
-            add_of_peer(line, lines, "unreadable", link, peer)?;
-            add_kind(line, kind)?;
+            add_of_frame(line, lines, "unreadable", (link, peer), kind)?;
             add_fault(line, &fault)
         }
         _ => Ok(()),
@@ -205,21 +212,13 @@ fn add_limits(line: &mut String, lines: &[Line<'_>], link: usize) -> Result<(), 
     line.push_str("}\n")
 }
 
-/// Adds who came and went.
-fn add_coming(line: &mut String, lines: &[Line<'_>], event: &Event) -> Result<(), AllocError> {
+/// Adds what happened at a port of the host.
+fn add_of_port(line: &mut String, lines: &[Line<'_>], event: &Event) -> Result<(), AllocError> {
     match *event {
         Event::Listening { link, address } => {
             add_of_line(line, lines, "listening", link)?;
             write!(line, "\"address\":\"{address}\"")?;
             add_limits(line, lines, link)
-        }
-        Event::Connected {
-            link,
-            peer,
-            address,
-        } => {
-            add_of_peer(line, lines, "connected", link, peer)?;
-            write!(line, "\"address\":\"{address}\"}}\n")
         }
         Event::Refused { link, address, why } => {
             add_of_line(line, lines, "refused", link)?;
@@ -229,6 +228,21 @@ fn add_coming(line: &mut String, lines: &[Line<'_>], event: &Event) -> Result<()
         Event::NotAccepted { link } => {
             add_of_line(line, lines, "not-accepted", link)?;
             line.push_str("\"tried\":\"again\"}\n")
+        }
+        _ => Ok(()),
+    }
+}
+
+/// Adds who came and went.
+fn add_coming(line: &mut String, lines: &[Line<'_>], event: &Event) -> Result<(), AllocError> {
+    match *event {
+        Event::Connected {
+            link,
+            peer,
+            address,
+        } => {
+            add_of_peer(line, lines, "connected", link, peer)?;
+            write!(line, "\"address\":\"{address}\"}}\n")
         }
         Event::Closed {
             link,
@@ -289,6 +303,9 @@ pub fn add_line(
         | Event::LogFailed
         | Event::Stopping { .. }
         | Event::Moved { .. } => add_own(line, event),
+        Event::Listening { .. } | Event::Refused { .. } | Event::NotAccepted { .. } => add_of_port(
+            line, lines, event,
+        ),
         _ => add_coming(line, lines, event),
     }
 }

@@ -86,6 +86,34 @@ fn listen<R: Net>(
     }
 }
 
+/// Listens on each address, in their order.
+fn listen_all<R: Net>(
+    rt: &R,
+    alloc: Global,
+    poll: &Poll,
+    addresses: &[SocketAddr],
+) -> Result<Vec<Listener>, LoopFault> {
+    let mut listeners = Vec::new(alloc);
+    for (place, address) in addresses.iter().enumerate() {
+        let token = Token(LISTENERS.saturating_add(place));
+        match listen(rt, poll, token, *address) {
+            Ok(listener) => listeners.push(listener)?,
+            Err(why) => return Err(LoopFault::Listen {
+                address: *address,
+                why,
+            }),
+        }
+    }
+    Ok(listeners)
+}
+
+/// A connection may have come on a port, where there is one.
+fn notice(listener: Option<&mut Listener>) {
+    if let Some(listener) = listener {
+        listener.may_have_come = true;
+    }
+}
+
 impl Ports {
     /// Listens on each address. Standard input is watched for its end, where it is a pipe or a terminal.
     pub fn open<R: Net>(
@@ -98,17 +126,7 @@ impl Ports {
             Err(_) => return Err(LoopFault::Wait),
         };
         let events = Events::with_capacity(alloc, EVENTS)?;
-        let mut listeners = Vec::new(alloc);
-        for (place, address) in addresses.iter().enumerate() {
-            let token = Token(LISTENERS.saturating_add(place));
-            match listen(rt, &poll, token, *address) {
-                Ok(listener) => listeners.push(listener)?,
-                Err(why) => return Err(LoopFault::Listen {
-                    address: *address,
-                    why,
-                }),
-            }
-        }
+        let listeners = listen_all(rt, alloc, &poll, addresses)?;
         let _ = poll
             .registry()
             .register(&mut SourceFd(&0), CONTROL, Interest::READABLE);
@@ -177,16 +195,8 @@ impl Ports {
         for event in &self.events {
             match event.token() {
                 CONTROL => stops = event.is_read_closed() || control.is_at_end(),
-                PAGES => {
-                    if let Some(listener) = &mut self.pages {
-                        listener.may_have_come = true;
-                    }
-                }
-                Token(key) if key >= LISTENERS => {
-                    if let Some(listener) = self.listeners.get_mut(key - LISTENERS) {
-                        listener.may_have_come = true;
-                    }
-                }
+                PAGES => notice(self.pages.as_mut()),
+                Token(key) if key >= LISTENERS => notice(self.listeners.get_mut(key - LISTENERS)),
                 Token(key) if key >= VISITORS => self.visitors.notice(key - VISITORS),
                 Token(key) => peers.notice(key, event.is_read_closed() || event.is_error()),
             }

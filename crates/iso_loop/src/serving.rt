@@ -133,6 +133,29 @@ impl Looks {
     }
 }
 
+/// A turn, behind which the lines of the log are written, also where it fails.
+fn turn_told<R: Clock, L: Log, N: Lines + Pages>(
+    rt: &R,
+    host: &mut DurableHost<L>,
+    ports: &mut Ports,
+    peers: &mut Peers<'_, TcpStream>,
+    filling: &mut Filling,
+    log: &mut N,
+) -> Result<Duration, LoopFault>
+    // Every order that came is kept.
+    ensures kept { OnOk result (IsKept host.new) }
+    ensures step { OnOk result (IsInStep L.is_ready L.synced L.pending host.old
+        → IsInStep L.is_ready L.synced L.pending host.new) }
+{
+    match turn(rt, host, ports, peers, filling, log) {
+        Ok(pause) => Ok(pause),
+        Err(fault) => {
+            log.flush();
+            Err(fault)
+        }
+    }
+}
+
 /// Stops: tells why, and closes all peers.
 fn stop<N: Lines>(peers: &mut Peers<'_, TcpStream>, why: Stop, now: Moment, log: &mut N) {
     log.tell(now.since_1970, &Event::Stopping { why });
@@ -161,13 +184,7 @@ pub fn serve_ports<R: Net + Clock, L: Log, C: Control, N: Lines + Pages>(
     let mut pause = Duration::from_millis(0);
     for _ in 0..u64::MAX {
         let has_ended = ports.wait(pause, &mut peers, control)?;
-        pause = match turn(rt, host, ports, &mut peers, &mut filling, log) {
-            Ok(pause) => pause,
-            Err(fault) => {
-                log.flush();
-                return Err(fault);
-            }
-        };
+        pause = turn_told(rt, host, ports, &mut peers, &mut filling, log)?;
         let now = moment(rt)?;
         if let Some(why) = looks.stop(control, has_ended, now) {
             stop(&mut peers, why, now, log);

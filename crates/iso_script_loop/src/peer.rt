@@ -65,6 +65,15 @@ impl<S: Read + Write + Drop> Peer<S> {
             && !self.is_full(bounds)
     }
 
+    /// No frame is taken of it for now, and none any more where a bad header came.
+    pub fn stop_taking(&mut self, is_bad: bool) {
+        if is_bad {
+            self.standing = Standing::Cut;
+        } else {
+            self.has_frames = false;
+        }
+    }
+
     /// Whether bytes are written now.
     pub fn may_write(&self) -> bool {
         self.may_take && !self.waiting.is_empty() && self.standing != Standing::Closed

@@ -2,10 +2,10 @@
 
 use crate::late::{Held, Late};
 use crate::peer::Peer;
-use crate::telling::{Event, Telling, rule_event};
+use crate::telling::{Event, Telling};
 use iso_host::Link;
 use iso_order::NoMemory;
-use iso_script::Scripted;
+use iso_script::{Behaviour, Scripted};
 use iso_script_peers::{Bounds, Going, Standing, going_of};
 use iso_wire::{Framed, unframe};
 use slab::Slab;
@@ -33,16 +33,16 @@ pub(crate) struct Peers<'l, S, W> {
     count: u64,
 }
 
-/// Lets what was written for a message out.
+/// Lets what was written for a message out, as its behaviour says.
 fn let_out<S: Read + Write + Drop>(
     alloc: Global,
     key: usize,
     peer: &mut Peer<S>,
     late: &mut Late,
-    going: Going,
+    (behaviour, now): (&Behaviour, u64),
     out: &[u8],
 ) -> Result<(), AllocError> {
-    match going {
+    match going_of(behaviour, now) {
         Going::Now => peer.waiting.extend_from_slice(out),
         Going::Cut => {
             peer.standing = Standing::Cut;
@@ -126,31 +126,24 @@ impl<'l, S: Read + Write + Drop, W: Write> Peers<'l, S, W> {
         scripted: &mut Scripted,
         now: u64,
     ) -> Result<bool, NoMemory> {
-        let Some(peer) = self.all.get_mut(key) else {
-            return Ok(false);
+        let peer = match self.all.get_mut(key) {
+            Some(peer) if peer.may_take_frames(&self.bounds) => peer,
+            Some(_) | None => return Ok(false),
         };
-        if !peer.may_take_frames(&self.bounds) {
-            return Ok(false);
-        }
         let (body, used) = match unframe(self.link.header(), peer.came.as_slice()) {
             Ok(Framed::Got { body, used }) => (body, used),
-            Ok(Framed::More) => {
-                peer.has_frames = false;
-                return Ok(false);
-            }
-            Err(_) => {
-                peer.standing = Standing::Cut;
+            other => {
+                let is_bad = other.is_err();
+                peer.stop_taking(is_bad);
                 return Ok(false);
             }
         };
         self.out.clear();
         let behaviour = scripted.answer(self.link, body, &mut self.out)?;
         peer.came.advance(used);
-        if let Some(event) = rule_event(peer.number, &behaviour) {
-            self.told.tell(&event);
-        }
-        let going = going_of(&behaviour, now);
-        let_out(self.alloc, key, peer, &mut self.late, going, &self.out)?;
+        self.told.tell_rule(peer.number, &behaviour);
+        let deed = (&behaviour, now);
+        let_out(self.alloc, key, peer, &mut self.late, deed, &self.out)?;
         Ok(true)
     }
 

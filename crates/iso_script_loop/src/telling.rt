@@ -18,7 +18,7 @@ pub(crate) enum Event {
 }
 
 /// The event that a rule decided, where one did.
-pub(crate) fn rule_event(peer: u64, behaviour: &Behaviour) -> Option<Event> {
+fn rule_event(peer: u64, behaviour: &Behaviour) -> Option<Event> {
     match behaviour {
         Behaviour::Honest => None,
         Behaviour::Ruled { rule, deed } => Some(Event::Rule {
@@ -92,6 +92,13 @@ impl<W: Write> Telling<W> {
         match self.out.write(self.line.as_bytes()) {
             Ok(count) => self.is_torn = count < self.line.len(),
             Err(_) => {}
+        }
+    }
+
+    /// Tells what a rule decided at a message of a peer, where one did.
+    pub fn tell_rule(&mut self, peer: u64, behaviour: &Behaviour) {
+        if let Some(event) = rule_event(peer, behaviour) {
+            self.tell(&event);
         }
     }
 }

@@ -69,31 +69,24 @@ pub struct Subcommand {
     pub words: &'static [&'static [Word]],
 }
 
+/// A word that is given by its name, with what is shown for its value.
+fn named<'a>(argument: Arg<'a>, word: &Word, shown: &'static str) -> Arg<'a> {
+    argument.long(word.id).value_name(shown)
+}
+
 /// A word that takes what it takes.
 fn taking<'a>(argument: Arg<'a>, word: &Word) -> Arg<'a> {
     match &word.takes {
         Takes::Place(shown) => argument.value_name(*shown),
         Takes::Nothing => argument.long(word.id).action(ArgAction::SetTrue),
-        Takes::Text(shown) => argument.long(word.id).value_name(*shown),
-        Takes::OneOf(shown, values) => argument
-            .long(word.id)
-            .value_name(*shown)
-            .value_parser(*values),
-        Takes::Number(shown, least, most) => argument
-            .long(word.id)
-            .value_name(*shown)
-            .value_parser(ValueParser::Unsigned(*least, *most)),
-        Takes::Short(shown) => argument
-            .long(word.id)
-            .value_name(*shown)
-            .value_parser(clap::value_parser!(u16)),
-        Takes::Texts(shown) => argument
-            .long(word.id)
-            .value_name(*shown)
-            .action(ArgAction::Append),
-        Takes::Shorts(shown) => argument
-            .long(word.id)
-            .value_name(*shown)
+        Takes::Text(shown) => named(argument, word, shown),
+        Takes::OneOf(shown, values) => named(argument, word, shown).value_parser(*values),
+        Takes::Number(shown, least, most) => named(argument, word, shown).value_parser(
+            ValueParser::Unsigned(*least, *most),
+        ),
+        Takes::Short(shown) => named(argument, word, shown).value_parser(clap::value_parser!(u16)),
+        Takes::Texts(shown) => named(argument, word, shown).action(ArgAction::Append),
+        Takes::Shorts(shown) => named(argument, word, shown)
             .action(ArgAction::Append)
             .value_parser(clap::value_parser!(u16)),
     }

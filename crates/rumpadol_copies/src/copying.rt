@@ -4,9 +4,9 @@ use crate::fetching::fetch;
 use crate::filing::file_records;
 use crate::held::Held;
 use crate::reaching::cluster_at;
-use crate::sending::send_records;
+use crate::sending::{SendFault, send_records};
 use crate::sentences::{exists, not_fetched, not_filed, not_free, not_sent, orders_text};
-use iso_etcd::HEADING_SIZE;
+use iso_etcd::{Cluster, Dial, HEADING_SIZE};
 use iso_log::RECORD;
 use iso_replicas::{Clocked, check_free};
 use iso_service::{FileFault, Journals};
@@ -179,6 +179,23 @@ fn copy_to_file<S: Source + Journals, R: Net + Clock, F: Write>(
     }
 }
 
+/// Sends a heading and the records behind it to a cluster.
+fn send_all<R: Clock, D: Dial + Drop, F: Write>(
+    alloc: Global,
+    runtime: &R,
+    cluster: &mut Cluster<D>,
+    writer: Writer,
+    bytes: &[u8],
+    progress: &mut Progress<'_, F>,
+) -> Result<(), SendFault> {
+    let (heading, records) = parts_of(bytes);
+    let patience = Clocked::new(runtime, PATIENCE, PAUSE);
+    let batch = Vec::new(alloc);
+    send_records(
+        cluster, patience, writer, &heading, records, batch, progress,
+    )
+}
+
 /// Copies to etcd.
 fn copy_to_etcd<S: Source, R: Net + Clock + RandomSource, F: Write>(
     alloc: Global,
@@ -189,24 +206,15 @@ fn copy_to_etcd<S: Source, R: Net + Clock + RandomSource, F: Write>(
     is_terminal: bool,
     faults: &mut F,
 ) -> Result<Surveyed, Stop> {
-    let mut cluster = cluster_at(alloc, words.to, etcd, source, runtime)?;
-    if let Err(fault) = check_free(&mut cluster) {
+    let cluster = &mut cluster_at(alloc, words.to, etcd, source, runtime)?;
+    if let Err(fault) = check_free(cluster) {
         return Err(not_free(alloc, words.to, fault));
     }
     let taken = take(alloc, words, etcd, source, runtime, is_terminal, faults)?;
-    let (heading, records) = parts_of(taken.bytes.as_slice());
     let writer = new_writer(alloc, runtime)?;
-    let patience = Clocked::new(runtime, PATIENCE, PAUSE);
+    let bytes = taken.bytes.as_slice();
     let mut progress = Progress::new(faults, is_terminal);
-    let sent = send_records(
-        &mut cluster,
-        patience,
-        writer,
-        &heading,
-        records,
-        Vec::new(alloc),
-        &mut progress,
-    );
+    let sent = send_all(alloc, runtime, cluster, writer, bytes, &mut progress);
     progress.clear();
     match sent {
         Ok(()) => Ok(taken.surveyed),

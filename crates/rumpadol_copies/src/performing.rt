@@ -60,7 +60,7 @@ pub fn perform_journal<S: Source + Journals, R: Net + Clock + RandomSource, O: W
     job: JournalJob<'_>,
     source: &S,
     runtime: &R,
-    is_terminal: bool,
+    is_shown: bool,
     output: &mut O,
     faults: &mut F,
 ) -> Result<u8, Stop>
@@ -69,25 +69,11 @@ pub fn perform_journal<S: Source + Journals, R: Net + Clock + RandomSource, O: W
 {
     match job {
         JournalJob::Books(job, etcd) => look_into(
-            alloc,
-            job,
-            etcd,
-            source,
-            runtime,
-            is_terminal,
-            output,
-            faults,
+            alloc, job, etcd, source, runtime, is_shown, output, faults,
         ),
         JournalJob::Copy(words, etcd) => {
             perform_copy(
-                alloc,
-                words,
-                etcd,
-                source,
-                runtime,
-                is_terminal,
-                output,
-                faults,
+                alloc, words, etcd, source, runtime, is_shown, output, faults,
             )?;
             Ok(0)
         }

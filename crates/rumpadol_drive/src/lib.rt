@@ -13,6 +13,7 @@ mod in_question;
 mod performing;
 mod picture;
 mod progress;
+mod ready;
 mod told;
 mod unkept;
 

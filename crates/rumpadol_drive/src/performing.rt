@@ -6,18 +6,17 @@ use crate::day::perform_day;
 use crate::diary::{Diaries, make_diary, no_diary, open_diary};
 use crate::picture::{draw, picture_asked};
 use crate::progress::ProgressLine;
+use crate::ready::Ready;
 use crate::told::{Happened, report_of};
 use crate::unkept::Unkept;
 use iso_diary::Opened;
 use iso_drive::Driver;
-use iso_plan::Plan;
 use iso_report::Report;
 use iso_restarts::{Fault, Note, NoteLog};
-use iso_table::Table;
 use iso_tally::{Latencies, Tally};
 use iso_traffic::{TrafficFault, drive};
-use rumpadol_buying::{Buyers, DiaryFault, buyers_of};
-use rumpadol_drive_words::{DriveJob, DriveWords, MOST_ACQUIRER, MOST_OPEN};
+use rumpadol_buying::{DiaryFault, buyers_of};
+use rumpadol_drive_words::{DriveJob, DriveWords, MOST_ACQUIRER};
 use rumpadol_journals::accounts_at;
 use rumpadol_tables::{Source, Stop, failed, misused, refused, table_named, write_output};
 use std::alloc::Global;
@@ -25,58 +24,6 @@ use std::io::{Read, Write};
 use std::net::Net;
 use std::rt::Files;
 use std::time::Clock;
-
-/// How many transactions may be open a connection, where that isn't said.
-const OPEN_A_PEER: usize = 16;
-
-/// All that a run is done with.
-#[derive(Drop)]
-struct Ready<'a> {
-    words: DriveWords<'a>,
-    asked: Asked,
-    table: Table,
-    buyers: Buyers,
-}
-
-impl Ready<'_> {
-    /// How many transactions may be open at once: no more than have their notes kept together.
-    fn most_open(&self) -> usize {
-        let asked = match self.words.most_open {
-            Some(most) => most,
-            None => self.words.peers.saturating_mul(OPEN_A_PEER),
-        };
-        asked.min(MOST_OPEN as usize)
-    }
-
-    /// What the run is to do.
-    fn plan(&self) -> Plan<'_> {
-        let Ready {
-            words,
-            asked,
-            table,
-            buyers,
-        } = self;
-        Plan {
-            table,
-            header: words.header,
-            address: asked.address,
-            acquirer: words.acquirer,
-            peers: words.peers,
-            most_open: self.most_open(),
-            rate: words.rate,
-            count: words.count,
-            seconds: words.seconds,
-            least: asked.least,
-            most: asked.most,
-            mix: asked.mix,
-            patience: words.patience,
-            faults: asked.faults,
-            seed: words.seed,
-            buyers: &buyers.buyers,
-            checks: words.checks,
-        }
-    }
-}
 
 /// How the program stops where a run does before its end.
 fn stopped(alloc: Global, words: &DriveWords<'_>, fault: TrafficFault) -> Stop {
@@ -176,6 +123,33 @@ fn tell_report<O: Write, P: Write>(
     if report.is_good() { Ok(0) } else { Ok(1) }
 }
 
+/// Drives the host with an acquirer over the log of its notes: what happened.
+fn happened<L: NoteLog, R: Net + Clock, F: Write>(
+    alloc: Global,
+    runtime: &R,
+    ready: &Ready<'_>,
+    driver: &mut Driver<L>,
+    line: &mut ProgressLine<'_, F>,
+) -> Result<Happened, TrafficFault> {
+    let mut tally = Tally::NONE;
+    let mut latencies = Latencies::new(alloc);
+    let plan = ready.plan();
+    let outcome = drive(
+        runtime,
+        alloc,
+        &plan,
+        driver,
+        line,
+        &mut tally,
+        &mut latencies,
+    )?;
+    Ok(Happened {
+        tally,
+        latencies,
+        outcome,
+    })
+}
+
 /// Drives the host with an acquirer over the log of its notes, and gives the report.
 fn drive_over<'a, R: Net + Clock, L: NoteLog, F: Write>(
     alloc: Global,
@@ -185,35 +159,11 @@ fn drive_over<'a, R: Net + Clock, L: NoteLog, F: Write>(
     is_terminal: bool,
     faults: &mut F,
 ) -> Result<Report<'a>, Stop> {
-    let mut tally = Tally::NONE;
-    let mut latencies = Latencies::new(alloc);
     let mut line = ProgressLine::new(faults, is_terminal);
-    let plan = ready.plan();
-    let driven = drive(
-        runtime,
-        alloc,
-        &plan,
-        driver,
-        &mut line,
-        &mut tally,
-        &mut latencies,
-    );
+    let driven = happened(alloc, runtime, ready, driver, &mut line);
     line.clear();
     match driven {
-        Ok(outcome) => Ok(report_of(
-            alloc,
-            &ready.words,
-            &ready.asked,
-            &ready.table,
-            ready.most_open(),
-            &ready.buyers,
-            driver,
-            Happened {
-                tally,
-                latencies,
-                outcome,
-            },
-        )?),
+        Ok(happened) => Ok(report_of(alloc, ready, driver, happened)?),
         Err(fault) => Err(stopped(alloc, &ready.words, fault)),
     }
 }

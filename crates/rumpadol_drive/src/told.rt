@@ -2,6 +2,7 @@
 
 use crate::asked::Asked;
 use crate::in_question::messages_of;
+use crate::ready::Ready;
 use iso_drive::Driver;
 use iso_report::{Report, Settings};
 use iso_restarts::NoteLog;
@@ -107,6 +108,19 @@ fn books_of<L: NoteLog>(
     Ok(books)
 }
 
+/// The same, where the run checks its books.
+fn books_asked<L: NoteLog>(
+    alloc: Global,
+    ready: &Ready<'_>,
+    driver: &Driver<L>,
+    outcome: &Outcome,
+) -> Result<Option<Vec<AccountBooks>>, AllocError> {
+    if !ready.words.checks {
+        return Ok(None);
+    }
+    Ok(Some(books_of(alloc, &ready.buyers, driver, outcome)?))
+}
+
 /// What to look at of the first accounts on which both ends differ.
 fn doubts_of<L: NoteLog>(
     alloc: Global,
@@ -132,25 +146,17 @@ fn doubts_of<L: NoteLog>(
 /// What a run tells.
 pub(crate) fn report_of<'a, L: NoteLog>(
     alloc: Global,
-    words: &DriveWords<'a>,
-    asked: &Asked,
-    table: &Table,
-    most_open: usize,
-    buyers: &Buyers,
+    ready: &Ready<'a>,
     driver: &Driver<L>,
     mut happened: Happened,
 ) -> Result<Report<'a>, AllocError> {
-    let books = if words.checks {
-        Some(books_of(alloc, buyers, driver, &happened.outcome)?)
-    } else {
-        None
-    };
+    let books = books_asked(alloc, ready, driver, &happened.outcome)?;
     let doubts = match &books {
-        Some(books) => doubts_of(alloc, table, driver, books)?,
+        Some(books) => doubts_of(alloc, &ready.table, driver, books)?,
         None => Vec::new(alloc),
     };
     Ok(Report {
-        settings: settings_of(words, asked, most_open),
+        settings: settings_of(&ready.words, &ready.asked, ready.most_open()),
         tally: happened.tally,
         ended: ended_of(alloc, driver)?,
         mixed: happened.outcome.mixed,

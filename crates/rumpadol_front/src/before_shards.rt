@@ -51,13 +51,7 @@ pub fn perform_before_shards<S: Source + System, I: Read, F: Write>(
         header: job.header,
         bounds: job.bounds,
     };
-    let mut outside = Outside {
-        runtime,
-        stop_file: job.stop_file,
-        input,
-        is_terminal: terminals.input,
-        is_armed: true,
-    };
+    let mut stops = Outside::new(runtime, job.stop_file, input, terminals.input);
     let table = link.table().table();
-    perform_front(alloc, runtime, words, &shards, table, &mut outside, faults)
+    perform_front(alloc, runtime, words, &shards, table, &mut stops, faults)
 }

@@ -218,19 +218,10 @@ fn serve_file<S: Source + Journals + System, I: Read, F: Write>(
     let log = log_asked(alloc, runtime, words.log)?;
     let mut ports = open_ports(alloc, runtime, asked)?;
     let mut host = start_host(alloc, kept, accounts, &heading, source, is_shown, faults)?;
-    let mut control = stopper(runtime, words, terminals, input);
+    let control = &mut stopper(runtime, words, terminals, input);
     let terms = &asked.terms;
     serve_told(
-        alloc,
-        words,
-        runtime,
-        log,
-        &mut host,
-        lines,
-        terms,
-        &mut ports,
-        &mut control,
-        faults,
+        alloc, words, runtime, log, &mut host, lines, terms, &mut ports, control, faults,
     )
 }
 
@@ -274,17 +265,9 @@ fn serve_etcd<S: Source + System, I: Read, F: Write>(
     let Replica { mut host, stand } = started(
         alloc, words, accounts, &heading, source, is_shown, faults,
     )?;
-    let mut control = Keeping::new(stopper(runtime, words, terminals, input), runtime, stand);
+    let control = &mut Keeping::new(stopper(runtime, words, terminals, input), runtime, stand);
     let served = serve_replica(
-        alloc,
-        words,
-        runtime,
-        asked,
-        lines,
-        log,
-        &mut host,
-        &mut control,
-        faults,
+        alloc, words, runtime, asked, lines, log, &mut host, control, faults,
     );
     control.give_up();
     served

@@ -15,7 +15,7 @@ pub fn started<'n, S: Source + System, F: Write>(
     accounts: Accounts,
     heading: &Heading,
     source: &'n S,
-    is_terminal: bool,
+    is_shown: bool,
     faults: &mut F,
 ) -> Result<Replica<'n, S::Runtime>, Stop> {
     let (net, kept, asked) = (source.runtime(), words.kept, &words.replica);
@@ -26,14 +26,6 @@ pub fn started<'n, S: Source + System, F: Write>(
         );
     }
     start_active(
-        alloc,
-        net,
-        kept,
-        asked,
-        accounts,
-        heading,
-        source,
-        is_terminal,
-        faults,
+        alloc, net, kept, asked, accounts, heading, source, is_shown, faults,
     )
 }

@@ -116,17 +116,9 @@ fn perform_replica<S: Source + System, I: Read, O: Write, F: Write>(
     let Replica { mut host, stand } = started(
         alloc, words, accounts, heading, source, is_shown, faults,
     )?;
-    let journal = words.kept.journal;
+    let (journal, host) = (words.kept.journal, &mut host);
     let mut beating = Beating::new(input, source.runtime(), stand);
-    let served = serve_stream(
-        alloc,
-        journal,
-        link,
-        &mut host,
-        &mut beating,
-        output,
-        faults,
-    );
+    let served = serve_stream(alloc, journal, link, host, &mut beating, output, faults);
     beating.give_up();
     served
 }

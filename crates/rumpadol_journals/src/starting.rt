@@ -34,6 +34,19 @@ pub fn not_kept(alloc: Global, path: &str) -> Stop {
     ))
 }
 
+/// Makes the journal, or says why there is none.
+fn make_new<S: Source + Journals>(
+    alloc: Global,
+    path: &str,
+    heading: &Heading,
+    source: &S,
+) -> Result<(), Stop> {
+    match make_journal(source, path, heading) {
+        Ok(()) => Ok(()),
+        Err(fault) => Err(not_started(alloc, path, fault)),
+    }
+}
+
 /// A host over the journal of these accounts, which is made before where that is asked. A long start tells the error stream
 /// how far it is, where that is a terminal.
 pub fn start_host<S: Source + Journals, F: Write>(
@@ -45,10 +58,8 @@ pub fn start_host<S: Source + Journals, F: Write>(
     is_terminal: bool,
     faults: &mut F,
 ) -> Result<DurableHost<JournalLog<S::Disk>>, Stop> {
-    if words.is_new
-        && let Err(fault) = make_journal(source, words.journal, heading)
-    {
-        return Err(not_started(alloc, words.journal, fault));
+    if words.is_new {
+        make_new(alloc, words.journal, heading, source)?;
     }
     let mut progress = Progress::new(faults, is_terminal);
     let started = start(

@@ -269,15 +269,8 @@ fn perform_task<R: Read, O: Write, F: Write>(
     match task {
         Task::Explain(opened) => {
             let form = form_of(opened.words);
-            tell(
-                alloc,
-                explaining(opened),
-                form,
-                place,
-                input,
-                output,
-                faults,
-            )
+            let explaining = explaining(opened);
+            tell(alloc, explaining, form, place, input, output, faults)
         }
         Task::Decode(opened) => {
             let form = form_of(opened.words);
@@ -296,6 +289,14 @@ fn file_at<S: Source>(alloc: Global, source: &S, path: &str) -> Result<S::File, 
         Err(SourceFault::Unread) => Err(failed(format!(in alloc;
             "rumpadol: {path}: no such input; name a file that is there and may be read, or - for standard input\n"
         ))),
+    }
+}
+
+/// The place of a file of messages, with its size where progress is shown.
+fn place_at<'a, S: Source>(source: &S, path: &'a str, is_shown: bool) -> Place<'a> {
+    Place {
+        name: path,
+        total: if is_shown { source.size(path) } else { None },
     }
 }
 
@@ -322,13 +323,6 @@ pub fn perform_messages<S: Source, I: Read, O: Write, F: Write>(
         return perform_task(alloc, &task, place, input, output, faults);
     }
     let mut file = file_at(alloc, source, path)?;
-    let place = Place {
-        name: path,
-        total: if terminals.faults {
-            source.size(path)
-        } else {
-            None
-        },
-    };
+    let place = place_at(source, path, terminals.faults);
     perform_task(alloc, &task, place, &mut file, output, faults)
 }

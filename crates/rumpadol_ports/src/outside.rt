@@ -25,6 +25,24 @@ pub struct Outside<'r, 'w, 'i, R, I> {
     pub is_armed: bool,
 }
 
+impl<'r, 'w, 'i, R, I> Outside<'r, 'w, 'i, R, I> {
+    /// What stops a host or a front that no file stopped so far.
+    pub fn new(
+        runtime: &'r R,
+        stop_file: Option<&'w str>,
+        input: &'i mut I,
+        is_terminal: bool,
+    ) -> Outside<'r, 'w, 'i, R, I> {
+        Outside {
+            runtime,
+            stop_file,
+            input,
+            is_terminal,
+            is_armed: true,
+        }
+    }
+}
+
 impl<'r, 'w, 'i, R: Files, I: Read> Control for Outside<'r, 'w, 'i, R, I> {
     fn is_called_off(&mut self) -> bool {
         let is_there = is_there(self.runtime, self.stop_file);

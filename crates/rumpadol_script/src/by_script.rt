@@ -48,21 +48,8 @@ pub fn perform_by_script<S: Source + System, I: Read, F: Write>(
     let (accounts, _heading) = accounts_at(alloc, source, words.kept.accounts)?;
     let script = script_at(alloc, source, path)?;
     let asked = words_of(path, terms);
-    let mut outside = Outside {
-        runtime,
-        stop_file: words.stop_file,
-        input,
-        is_terminal: terminals.input,
-        is_armed: true,
-    };
+    let mut stops = Outside::new(runtime, words.stop_file, input, terminals.input);
     perform_script(
-        alloc,
-        runtime,
-        asked,
-        script,
-        accounts,
-        link,
-        &mut outside,
-        faults,
+        alloc, runtime, asked, script, accounts, link, &mut stops, faults,
     )
 }

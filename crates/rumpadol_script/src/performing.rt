@@ -77,6 +77,22 @@ fn serve<R: Net + Clock, C: Control, F: Write>(
     )
 }
 
+/// The port that the words name, once it is told.
+fn opened<R: Net, F: Write>(
+    alloc: Global,
+    runtime: &R,
+    words: &ScriptWords<'_>,
+    faults: &mut F,
+) -> Result<Port, Stop> {
+    match Port::open(runtime, alloc, words.address) {
+        Ok(port) => {
+            write_output(faults, sentences(alloc, words.path, &port)?.as_bytes())?;
+            Ok(port)
+        }
+        Err(fault) => Err(stopped(alloc, fault)),
+    }
+}
+
 /// Serves peers on a port by rules, on books of these accounts that are forgotten at the end. What happens is told on the error
 /// stream.
 pub fn perform_script<R: Net + Clock, C: Control, F: Write>(
@@ -92,12 +108,8 @@ pub fn perform_script<R: Net + Clock, C: Control, F: Write>(
     // A host that served to its end has status 0.
     ensures { IfOk result (λ status. status ≡ 0) }
 {
-    let mut port = match Port::open(runtime, alloc, words.address) {
-        Ok(port) => port,
-        Err(fault) => return Err(stopped(alloc, fault)),
-    };
+    let mut port = opened(alloc, runtime, &words, faults)?;
     let mut scripted = Scripted::new(alloc, Issuer::new(accounts, MOST_ORDERS), script);
-    write_output(faults, sentences(alloc, words.path, &port)?.as_bytes())?;
     match serve(
         alloc,
         runtime,
