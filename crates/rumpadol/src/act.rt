@@ -46,6 +46,14 @@ fn answer<O: Write>(alloc: Global, error: &Error, output: &mut O) -> Result<u8, 
     }
 }
 
+/// Says that the input is read, where a terminal waits for it.
+fn hint_at<F: Write>(job: &Job<'_>, terminals: Terminals, faults: &mut F) -> Result<(), Stop> {
+    if terminals.input && job.reads_input() && faults.write_all(HINT.as_bytes()).is_err() {
+        return Err(Stop::Output);
+    }
+    Ok(())
+}
+
 /// Does what a job asks.
 fn perform<S: Source + Journals + Diaries + System, I: Read, O: Write, F: Write>(
     alloc: Global,
@@ -61,11 +69,8 @@ fn perform<S: Source + Journals + Diaries + System, I: Read, O: Write, F: Write>
         (record { old = O.contents output.old; new = O.contents output.new })) }
     ensures range { IfOk result (λ status. status ≤ 1) }
 {
-    if terminals.input && job.reads_input() && faults.write_all(HINT.as_bytes()).is_err() {
-        return Err(Stop::Output);
-    }
-    let runtime = source.runtime();
-    let on_screen = terminals.faults;
+    hint_at(job, terminals, faults)?;
+    let (runtime, on_screen) = (source.runtime(), terminals.faults);
     match job {
         Job::Messages(job) => perform_messages(
             alloc, *job, source, terminals, input, output, faults,
