@@ -1,7 +1,7 @@
 //! A run, from its words to its report.
 ghost use Rattle.std.specs.Prelude.{◌≤◌, IfOk};
 
-use crate::asked::{Asked, asked_of};
+use crate::asked::asked_of;
 use crate::day::perform_day;
 use crate::diary::{Diaries, make_diary, no_diary, open_diary};
 use crate::picture::{draw, picture_asked};
@@ -13,6 +13,7 @@ use iso_diary::Opened;
 use iso_drive::Driver;
 use iso_report::Report;
 use iso_restarts::{Fault, Note, NoteLog};
+use iso_table::Table;
 use iso_tally::{Latencies, Tally};
 use iso_traffic::{TrafficFault, drive};
 use rumpadol_buying::{DiaryFault, buyers_of};
