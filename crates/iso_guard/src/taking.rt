@@ -23,6 +23,13 @@ pub(crate) fn drop_front(bytes: &mut Vec<u8>, count: usize)
     bytes.truncate(left);
 }
 
+/// So many bytes were taken, and why no more.
+fn turned(used: usize, stopped: Option<PeerFault>) -> Turned
+    ensures { result ≡ record { used = used; stopped = stopped } }
+{
+    Turned { used, stopped }
+}
+
 /// Answers the whole frames of some bytes.
 fn take_frames<N: Noting>(
     host: &mut Host,
@@ -42,24 +49,11 @@ fn take_frames<N: Noting>(
     let mut used = 0;
     'frames: loop {
         match unframe(link.header(), &bytes[used..]) {
-            Err(_) => {
-                return Turned {
-                    used,
-                    stopped: Some(PeerFault::BadHeader),
-                };
-            }
-            Ok(Framed::More) => {
-                return Turned {
-                    used,
-                    stopped: None,
-                };
-            }
+            Err(_) => return turned(used, Some(PeerFault::BadHeader)),
+            Ok(Framed::More) => return turned(used, None),
             Ok(Framed::Got { body, used: size }) => {
                 let Ok(came) = answer_guarded(host, link, terms, body, rooms, waiting) else {
-                    return Turned {
-                        used,
-                        stopped: Some(PeerFault::Memory),
-                    };
+                    return turned(used, Some(PeerFault::Memory));
                 };
                 noting.note(link, body.get(terms.skip..), came);
                 used += size;
@@ -87,15 +81,9 @@ pub(crate) fn take_held<N: Noting>(
 {
     one_journal(host.issuer());
     if held.extend_from_slice(bytes).is_err() {
-        return Turned {
-            used: 0,
-            stopped: Some(PeerFault::Memory),
-        };
+        return turned(0, Some(PeerFault::Memory));
     }
     let taken = take_frames(host, link, terms, held, rooms, noting, waiting);
     drop_front(held, taken.used);
-    Turned {
-        used: bytes.len(),
-        stopped: taken.stopped,
-    }
+    turned(bytes.len(), taken.stopped)
 }

@@ -82,23 +82,14 @@ fn answer_body(
     bodies_are_spellings();
     are_bytes(body);
     let _version = link.table().table().version();
-    match read_whole(link, body, &mut rooms.request) {
-        Err(fault) => Err(fault),
-        Ok(false) => match answer_honestly(host, link, body, out) {
-            Ok(()) => Ok(Behaviour::Honest),
-            Err(fault) => Err(fault),
-        },
-        Ok(true) => {
-            let behaviour = script.behaviour(&rooms.request);
-            match treat(host, link, rooms, &behaviour, body, out) {
-                Ok(()) => {
-                    script.count(&rooms.request);
-                    Ok(behaviour)
-                }
-                Err(fault) => Err(fault),
-            }
-        }
+    if !read_whole(link, body, &mut rooms.request)? {
+        answer_honestly(host, link, body, out)?;
+        return Ok(Behaviour::Honest);
     }
+    let behaviour = script.behaviour(&rooms.request);
+    treat(host, link, rooms, &behaviour, body, out)?;
+    script.count(&rooms.request);
+    Ok(behaviour)
 }
 
 impl Scripted {

@@ -1,9 +1,11 @@
 //! A stream of frames, at a host that keeps each order before it is answered.
-ghost use Rattle.std.specs.Prelude.{◌≡◌, ◌<◌, ◌≤◌, length, take, IfOk, OnErr};
+ghost use Rattle.std.specs.Prelude.{◌≡◌, ◌<◌, ◌≤◌, length, take, None, Some, IfErr, IfOk, OnErr, OnOk};
 ghost use Rattle.std.specs.Io.KnownBytes.{Consumes, IsAtEnd, Keeps};
 ghost use Rattle.iso_peers.specs.Host.{IsInStep, IsKept};
 ghost use Rattle.iso_host.specs.Serving.{standing};
+ghost use Rattle.iso_host.specs.declared.peer.PeerFault.{PeerFault};
 ghost use Rattle.iso_service.specs.Serving.{Leaves, AreKept, EndsAt, stop_of};
+ghost use Rattle.iso_service.specs.declared.fault.ServiceFault.TheVariants.{Memory, Read};
 
 use crate::answering::{keep_and_answer, kept_outlive};
 use crate::counting::NO_FRAMES;
@@ -11,8 +13,8 @@ use crate::fault::ServiceFault;
 use crate::taking::take_counted;
 use iso_durable::Log;
 use iso_host::laws::one_journal;
-use iso_host::{Failed, Inlet, Link, Outlet, PeerFault, Report};
-use iso_peers::{Connection, DurableHost};
+use iso_host::{Inlet, Link, Outlet, PeerFault, Report};
+use iso_peers::{Connection, DurableHost, Turned};
 use iso_wire::laws::splits_once;
 use std::alloc::Global;
 
@@ -30,18 +32,33 @@ fn told_at_end(connection: &Connection<'_>, report: Report) -> Result<Report, Se
     }
 }
 
-/// How a peer that takes no more ends the serving.
-fn stopped_by(fault: PeerFault) -> ServiceFault
-    ensures { result ≡ stop_of fault }
+/// Goes on where a peer takes more; else tells how it ends the serving.
+fn goes_on(turned: &Turned) -> Result<(), ServiceFault>
+    ensures more { OnOk result (turned.now.stopped ≡ None) }
+    ensures stopped { IfErr result (λ e. (fault : PeerFault)
+        × (turned.now.stopped ≡ Some fault) × (e ≡ stop_of fault)) }
 {
-    match fault {
-        PeerFault::BadHeader => ServiceFault::BadHeader,
-        PeerFault::Memory => ServiceFault::Memory,
+    match turned.stopped {
+        None => Ok(()),
+        Some(PeerFault::BadHeader) => Err(ServiceFault::BadHeader),
+        Some(PeerFault::Memory) => Err(ServiceFault::Memory),
+    }
+}
+
+/// A block for what one read brings.
+fn new_block(alloc: Global) -> Result<Vec<u8>, ServiceFault>
+    ensures size { IfOk result (λ block. length block.items ≡ 65536) }
+    ensures fault { IfErr result (λ e. e ≡ Memory) }
+{
+    let mut block = Vec::new(alloc);
+    match block.resize(BLOCK, 0) {
+        Ok(()) => Ok(block),
+        Err(_) => Err(ServiceFault::Memory),
     }
 }
 
 /// Reads the next bytes into the front of a block.
-fn fill<R: Inlet>(reader: &mut R, block: &mut Vec<u8>) -> Result<usize, Failed>
+fn fill<R: Inlet>(reader: &mut R, block: &mut Vec<u8>) -> Result<usize, ServiceFault>
     ensures bound { IfOk result (λ n. n ≤ length block.new.items) }
     ensures room { length block.new.items ≡ length block.old.items }
     ensures read { IfOk result
@@ -49,8 +66,12 @@ fn fill<R: Inlet>(reader: &mut R, block: &mut Vec<u8>) -> Result<usize, Failed>
     ensures end { IfOk result
         (λ n. n ≡ 0 → 0 < length block.old.items → IsAtEnd (R.remaining reader.new)) }
     ensures failed { OnErr result (Keeps (R.remaining reader.old) (R.remaining reader.new)) }
+    ensures fault { IfErr result (λ e. e ≡ Read) }
 {
-    reader.read(block)
+    match reader.read(block) {
+        Ok(count) => Ok(count),
+        Err(_) => Err(ServiceFault::Read),
+    }
 }
 
 /// Reads frames to the end of the input, and writes each answer once its order is kept. What one read brings is decided, and
@@ -80,31 +101,17 @@ pub fn serve_kept<L: Log, R: Inlet, W: Outlet>(
     one_journal(host.issuer());
     splits_once();
     kept_outlive(host);
-    let mut block = Vec::new(alloc);
-    let Ok(()) = block.resize(BLOCK, 0) else {
-        return Err(ServiceFault::Memory);
-    };
+    let mut block = new_block(alloc)?;
     let mut connection = Connection::new(alloc, link);
     let mut report = NO_FRAMES;
     for _ in 0..u64::MAX {
-        let Ok(count) = fill(reader, &mut block) else {
-            return Err(ServiceFault::Read);
-        };
+        let count = fill(reader, &mut block)?;
         if count == 0 {
             return told_at_end(&connection, report);
         }
-        let turned = match take_counted(host, &mut connection, &block[..count], &mut report) {
-            Ok(turned) => turned,
-            Err(_) => return Err(ServiceFault::Log),
-        };
-        match keep_and_answer(host, &mut connection, writer) {
-            Ok(()) => {}
-            Err(fault) => return Err(fault),
-        }
-        match turned.stopped {
-            None => {}
-            Some(fault) => return Err(stopped_by(fault)),
-        }
+        let turned = take_counted(host, &mut connection, &block[..count], &mut report)?;
+        keep_and_answer(host, &mut connection, writer)?;
+        goes_on(&turned)?;
     }
     Err(ServiceFault::Read)
 }

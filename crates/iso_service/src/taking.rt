@@ -1,14 +1,23 @@
 //! What a peer sends, frame after frame, and how many came of each kind.
-ghost use Rattle.std.specs.Prelude.{◌≡◌, IfOk};
+ghost use Rattle.std.specs.Prelude.{◌≡◌, IfErr, IfOk};
 ghost use Rattle.iso_peers.specs.Host.{IsInStep};
 ghost use Rattle.iso_peers.specs.Turn.{TakesAll, at_books};
+ghost use Rattle.iso_service.specs.declared.fault.ServiceFault.TheVariants as service;
 
 use crate::counting::count_taken;
-use iso_durable::{Log, LogFailed};
+use crate::fault::ServiceFault;
+use iso_durable::Log;
 use iso_host::laws::one_journal;
 use iso_host::{PeerFault, Report};
 use iso_peers::{Connection, DurableHost, TurnFault, Turned};
 use iso_wire::laws::splits_once;
+
+/// So many bytes were taken, and why no more.
+fn turned(used: usize, stopped: Option<PeerFault>) -> Turned
+    ensures { result ≡ record { used = used; stopped = stopped } }
+{
+    Turned { used, stopped }
+}
 
 /// Takes all bytes of a peer, as `DurableHost::take_all` does, and counts the frames.
 pub(crate) fn take_counted<L: Log>(
@@ -16,9 +25,10 @@ pub(crate) fn take_counted<L: Log>(
     connection: &mut Connection<'_>,
     bytes: &[u8],
     report: &mut Report,
-) -> Result<Turned, LogFailed>
+) -> Result<Turned, ServiceFault>
     ensures took { IfOk result (TakesAll (at_books connection.old host.old.host)
         (at_books connection.new host.new.host) bytes.now) }
+    ensures fault { IfErr result (λ e. e ≡ service.Log) }
     ensures table { connection.new.peer.table ≡ connection.old.peer.table }
     ensures header { connection.new.peer.header ≡ connection.old.peer.header }
     ensures log { host.new.log ≡ host.old.log }
@@ -33,27 +43,14 @@ pub(crate) fn take_counted<L: Log>(
     let mut used = 0;
     'pieces: loop {
         match host.take(connection, &bytes[used..]) {
-            Err(TurnFault::Log) => return Err(LogFailed),
-            Err(TurnFault::BadHeader) => {
-                return Ok(Turned {
-                    used,
-                    stopped: Some(PeerFault::BadHeader),
-                });
-            }
-            Err(TurnFault::Memory) => {
-                return Ok(Turned {
-                    used,
-                    stopped: Some(PeerFault::Memory),
-                });
-            }
+            Err(TurnFault::Log) => return Err(ServiceFault::Log),
+            Err(TurnFault::BadHeader) => return Ok(turned(used, Some(PeerFault::BadHeader))),
+            Err(TurnFault::Memory) => return Ok(turned(used, Some(PeerFault::Memory))),
             Ok(taken) => {
                 count_taken(report, &taken);
                 used += taken.used;
                 if used == bytes.len() {
-                    return Ok(Turned {
-                        used,
-                        stopped: None,
-                    });
+                    return Ok(turned(used, None));
                 }
             }
         }

@@ -15,8 +15,8 @@ returns-then-is_err-clause-took g c =
     let waiting = c.args.waiting.now.items in
     let without = subst (λ (b : Books). StaysWithout b) c.issuer.ensures c.one_journal.ensures.none in
     let same : c.extend_from_slice.new.self.items ≡ held = search rules in
-    subst (λ (l : List ℕ). TakesGuarded guard (one_peer held c.args.host.now waiting) (one_peer l c.args.host.now waiting) c.args.bytes.now
-    (record { used = 0; stopped = Some Memory })) (sym same) (holds_nothing guard held waiting c.args.bytes.now c.args.host.now c.args.host.now without refl)
+    rw c.turned.ensures (subst (λ (l : List ℕ). TakesGuarded guard (one_peer held c.args.host.now waiting) (one_peer l c.args.host.now waiting) c.args.bytes.now
+    (record { used = 0; stopped = Some Memory })) (sym same) (holds_nothing guard held waiting c.args.bytes.now c.args.host.now c.args.host.now without refl))
 
 pub returns-clause-allowed : goal.returns-clause-allowed
 returns-clause-allowed g c =

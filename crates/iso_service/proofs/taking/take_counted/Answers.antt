@@ -54,5 +54,5 @@ returns-then-used-bytes-clause-took g c =
     c.one_journal.ensures.more so.table so.header so.so_far took in
     let none = no_frame_after c.splits_once.ensures.some old.peer.table old.peer.header old.peer.held new.connection.peer.held c.pieces.host.host new.self.host
     (take c.in-Ok.taken.used (drop c.pieces.used bytes)) old.waiting new.connection.waiting c.in-Ok.taken.handled took.piece in
-    all_taken c.args.connection.now new.connection c.args.host.now.host new.self.host bytes (c.pieces.used + c.in-Ok.taken.used) c.if-used-bytes.true
-    (c.take.ensures.header ∙ so.header) so_far (subst (λ (h : Header). NoFrame h new.connection.peer.held) so.header none)
+    rw c.turned-then-used-bytes.ensures (all_taken c.args.connection.now new.connection c.args.host.now.host new.self.host bytes (c.pieces.used + c.in-Ok.taken.used) c.if-used-bytes.true
+    (c.take.ensures.header ∙ so.header) so_far (subst (λ (h : Header). NoFrame h new.connection.peer.held) so.header none))
