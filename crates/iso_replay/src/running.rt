@@ -75,7 +75,8 @@ pub fn exchange_over<I: Read, O: Write, W: Waiting>(
     ensures ends { IfOk result (Ends plan.entry) }
 {
     splits_once();
-    let mut block = vec![in alloc; 0; BLOCK]?;
+    let mut block = Vec::new(alloc);
+    block.resize(BLOCK, 0)?;
     let heard = Heard::new(alloc, plan.header);
     let start = waiting.now()?;
     let mut exchange = Exchange::new(heard, plan.frames, plan.wanted, plan.patience, start);
