@@ -1,4 +1,4 @@
-use Rattle.std.proofs.Common.{◌≡◌, ◌++◌, ℕ, Bool, List, refl, subst}
+use Rattle.std.proofs.Common.{◌≡◌, ◌++◌, ◌∙◌, ℕ, Bool, List, refl, subst}
 use Rattle.std.specs.Prelude.{OnOk}
 use Rattle.iso_jobs.specs.Telling.{TellsLines}
 use Rattle.iso_jobs.specs.declared.work.Work.{Work}
@@ -13,7 +13,7 @@ returns-in-Lines c =
     let Told : Bool → Type 0 = λ framed. OnOk c.tell_lines.result ((text : List ℕ)
     × TellsLines c.in-Lines.table.now (record { names = c.in-Lines.names.now; is_clear = c.in-Lines.is_clear; is_framed = framed }) c.in_ok-front.bytes.now text
     × (c.tell_lines.new.out.items ≡ c.args.out.now.items ++ text)) in
-    let told = subst Told (c.is_some.ensures ∙ c.frame.ensures) c.tell_lines.ensures.told in
+    let told = subst Told (c.is_some.ensures ∙ c.frame-frame.ensures) c.tell_lines.ensures.told in
     rw c.in-Lines.is (silent (record { work = w; form = c.args.job.form }) c.args.body.now c.in_ok-front.front.now c.in_ok-front.bytes.now
     (record { old = c.args.out.now.items; new = c.tell_lines.new.out.items }) parts.whole parts.split.0 parts.split.1
     c.tell_lines.result refl told c.tell_lines.ensures.refused c.tell_lines.ensures.unchanged)
