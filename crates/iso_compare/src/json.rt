@@ -6,6 +6,7 @@ ghost use Rattle.iso_compare.specs.Tallying.{Counts};
 
 use crate::comparison::{Comparison, Side, compare_frames};
 use crate::difference::Difference;
+use crate::reading::NoMessage;
 use crate::tally::Tally;
 use crate::telling::Telling;
 use iso_json::append_json;
@@ -80,6 +81,25 @@ fn push_difference(
     Ok(())
 }
 
+/// Appends the line of bytes that are no message.
+fn push_unreadable(
+    alloc: Global,
+    number: usize,
+    side: Side,
+    why: NoMessage,
+    out: &mut Vec<u8>,
+) -> Result<(), NoMemory> {
+    let which = match side {
+        Side::Expected => "expected",
+        Side::Came => "came",
+    };
+    let line = format!(in alloc;
+        "{{\"frame\":{number},\"unreadable\":\"{which}\",\"fault\":\"{why}\"}}\n"
+    )?;
+    out.extend_from_slice(line.as_bytes())?;
+    Ok(())
+}
+
 /// Appends what is told of a body beside the one that was expected.
 fn push_frame(
     alloc: Global,
@@ -91,17 +111,7 @@ fn push_frame(
 ) -> Result<(), NoMemory> {
     match compare_frames(alloc, telling.table, expected, came)? {
         Comparison::Same => Ok(()),
-        Comparison::Unreadable(side, why) => {
-            let which = match side {
-                Side::Expected => "expected",
-                Side::Came => "came",
-            };
-            let line = format!(in alloc;
-                "{{\"frame\":{number},\"unreadable\":\"{which}\",\"fault\":\"{why}\"}}\n"
-            )?;
-            out.extend_from_slice(line.as_bytes())?;
-            Ok(())
-        }
+        Comparison::Unreadable(side, why) => push_unreadable(alloc, number, side, why, out),
         Comparison::Differ(difference) => {
             // both were read just now, so that only want of memory is left
             let (Ok((wanted, _)), Ok((given, _))) = (
@@ -125,14 +135,8 @@ fn lines_of(
 ) -> Result<Vec<u8>, NoMemory> {
     let mut lines = Vec::new(alloc);
     for (place, (wanted, given)) in expected.iter().zip(came).enumerate() {
-        push_frame(
-            alloc,
-            telling,
-            place.saturating_add(1),
-            wanted,
-            given,
-            &mut lines,
-        )?;
+        let number = place.saturating_add(1);
+        push_frame(alloc, telling, number, wanted, given, &mut lines)?;
     }
     let Tally {
         compared,

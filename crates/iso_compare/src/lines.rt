@@ -208,30 +208,13 @@ fn lines_of(
 ) -> Result<Vec<u8>, NoMemory> {
     let mut lines = Vec::new(alloc);
     for (place, (wanted, given)) in expected.iter().zip(came).enumerate() {
-        push_frame(
-            alloc,
-            telling,
-            place.saturating_add(1),
-            wanted,
-            given,
-            &mut lines,
-        )?;
+        let number = place.saturating_add(1);
+        push_frame(alloc, telling, number, wanted, given, &mut lines)?;
     }
-    let (after, missing, beyond) = (tally.compared, tally.missing, tally.beyond);
-    push_range(
-        alloc,
-        after,
-        missing,
-        "expected, and didn't come",
-        &mut lines,
-    )?;
-    push_range(
-        alloc,
-        after,
-        beyond,
-        "came, and none was expected",
-        &mut lines,
-    )?;
+    let what = "expected, and didn't come";
+    push_range(alloc, tally.compared, tally.missing, what, &mut lines)?;
+    let what = "came, and none was expected";
+    push_range(alloc, tally.compared, tally.beyond, what, &mut lines)?;
     push_summary(alloc, tally, &mut lines)?;
     Ok(lines)
 }

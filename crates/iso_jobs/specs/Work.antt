@@ -74,15 +74,6 @@ TellsBad (works.Explain t names style) form text = Unit {0}
 TellsBad (works.ExplainJson t names c) form text = Unit {0}
 TellsBad (works.Convert f t) form text = text ≡ []
 
--- what was told of the bytes so far; nothing is said where memory ran out
-abbrev pub TellsBehind : Task → List ℕ → List ℕ → Text → Result (Unit {0}) Refusal → Type 0
-TellsBehind task front b out (Ok done) =
-    (text : List ℕ) × TellsGood task.work task.form front b text × (out.new ≡ out.old ++ text)
-TellsBehind task front b out (Err (refusals.Refused trouble)) =
-    (text : List ℕ) × IsBad task.work task.form front b × TellsFault task.work text
-    × (out.new ≡ out.old ++ text)
-TellsBehind task front b out (Err refusals.Memory) = Unit {0}
-
 -- ---- one body
 
 -- the body is too short, or bad behind the bytes that are skipped

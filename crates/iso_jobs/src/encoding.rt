@@ -201,6 +201,42 @@ fn close<O: Write, F: Write>(
 /// The most bytes of one text.
 const MOST_TEXT: usize = 1_048_576;
 
+/// Where the first text stands.
+const START: Cursor = Cursor {
+    lines: 0,
+    has_message: false,
+};
+
+/// Makes the messages of all texts of an input. What was made is written before the next block is read.
+fn make_all<R: Read + Drop, O: Write, F: Write>(
+    making: Making,
+    input: R,
+    output: &mut O,
+    faults: &mut F,
+) -> Result<bool, Stop>
+    ensures { IfOk result (λ good. IfSome (R.remaining input)
+        (λ all. MakesAll making.entry.table.now making.entry.form all
+        (record { old = O.contents output.old; new = O.contents output.new }) good)) }
+{
+    let mut cursor = START;
+    let mut window = Window::new(making.alloc, input);
+    let mut pages = Pages::new(making.alloc);
+    for _ in 0..u64::MAX {
+        if !step(making, &mut cursor, &mut window, &mut pages)? {
+            pages.write(output, faults)?;
+            if window.held().len() > MOST_TEXT {
+                return Err(Stop::TooLong);
+            }
+            if !read_more(&mut window)? {
+                let rest = window.held();
+                return close(making, &mut cursor, rest, &mut pages, output, faults);
+            }
+        }
+    }
+    // no input has so many texts
+    Err(Stop::Read)
+}
+
 /// Makes the messages that the texts of an input say, and tells whether all of them are good. The input has a name, which
 /// stands in complaints.
 ///
@@ -227,24 +263,5 @@ pub fn make_messages<R: Read + Drop, O: Write, F: Write>(
         form,
         input: name,
     };
-    let mut cursor = Cursor {
-        lines: 0,
-        has_message: false,
-    };
-    let mut window = Window::new(alloc, input);
-    let mut pages = Pages::new(alloc);
-    for _ in 0..u64::MAX {
-        if !step(making, &mut cursor, &mut window, &mut pages)? {
-            pages.write(output, faults)?;
-            if window.held().len() > MOST_TEXT {
-                return Err(Stop::TooLong);
-            }
-            if !read_more(&mut window)? {
-                let rest = window.held();
-                return close(making, &mut cursor, rest, &mut pages, output, faults);
-            }
-        }
-    }
-    // no input has so many texts
-    Err(Stop::Read)
+    make_all(making, input, output, faults)
 }

@@ -1,6 +1,6 @@
 //! The frames of an input that is read block by block.
 
-ghost use Rattle.std.specs.Prelude.{◌≡◌, false, is_some, nat_lt, IfOk, IfSome};
+ghost use Rattle.std.specs.Prelude.{◌≡◌, false, is_some, length, nat_lt, IfOk, IfSome};
 ghost use Rattle.std.specs.Io.KnownBytes.{Keeps};
 ghost use Rattle.iso_input.specs.Window.{Grows};
 ghost use Rattle.iso_jobs.specs.Frames.{Steps, Ends};
@@ -87,10 +87,14 @@ fn end<O: Write, F: Write>(
     Ok(!pages.has_refused)
 }
 
-/// What is wrong with a rest of so many bytes in which no whole frame stands.
-fn cut(rest: usize) -> Option<Trouble>
-    ensures { is_some result ≡ nat_lt 0 rest }
+/// What is wrong with a rest that begins with a header that isn't of digits.
+const BAD_HEADER: Option<Trouble> = Some(Trouble::BadHeader);
+
+/// What is wrong with the held bytes, in which no whole frame stands, where no more come.
+fn cut<R: Read + Drop>(window: &Window<R>) -> Option<Trouble>
+    ensures { is_some result ≡ nat_lt 0 (length window.now.held) }
 {
+    let rest = window.held().len();
     if rest > 0 {
         Some(Trouble::CutFrame(rest))
     } else {
@@ -112,24 +116,18 @@ pub(crate) fn work_on_frames<R: Read + Drop, O: Write, F: Write>(
         (λ all. WorksOn (task_of job.entry) header all
         (record { old = O.contents output.old; new = O.contents output.new }) good)) }
 {
-    let mut window = Window::new(job.alloc, input);
-    let mut pages = Pages::new(job.alloc);
-    let mut number: u64 = 1;
-    let mut blocks: u64 = 0;
+    let (mut window, mut pages) = (Window::new(job.alloc, input), Pages::new(job.alloc));
+    let (mut number, mut blocks) = (1u64, 0u64);
     for _ in 0..u64::MAX {
         match step(job, header, number, &mut window, &mut pages)? {
             Front::Frame => number = number.saturating_add(1),
-            Front::Bad => {
-                let rest = Some(Trouble::BadHeader);
-                return end(job, number, rest, &mut pages, output, faults);
-            }
+            Front::Bad => return end(job, number, BAD_HEADER, &mut pages, output, faults),
             Front::Part => {
                 pages.write(output, faults)?;
                 tell_progress(job, blocks, number, faults)?;
                 blocks = blocks.saturating_add(1);
                 if !read_more(&mut window)? {
-                    let rest = cut(window.held().len());
-                    return end(job, number, rest, &mut pages, output, faults);
+                    return end(job, number, cut(&window), &mut pages, output, faults);
                 }
             }
         }

@@ -1,7 +1,7 @@
 //! One body of an input, and what is told of it.
 
-ghost use Rattle.std.specs.Prelude.{◌≡◌, ◌++◌, ℕ, List, OnOk, IfOk, is_none};
-ghost use Rattle.iso_jobs.specs.Work.{TellsBehind, TellsBody, TellsNone, Tells, task_of};
+ghost use Rattle.std.specs.Prelude.{◌≡◌, ◌++◌, ℕ, List, OnOk, IfOk, is_none, is_some};
+ghost use Rattle.iso_jobs.specs.Work.{TellsBody, TellsNone, Tells, task_of};
 
 use crate::form::Form;
 use crate::place::Place;
@@ -37,43 +37,41 @@ impl<'a> Job<'a> {
     pub(crate) fn place(&self, number: u64) -> Place<'a> {
         Place {
             input: self.input,
-            frame: if self.form.header.is_some() {
-                Some(number)
-            } else {
-                None
-            },
+            frame: self.frame(number),
+        }
+    }
+
+    /// The number, if the input is a stream of frames.
+    fn frame(&self, number: u64) -> Option<u64>
+        ensures { is_some result ≡ is_some self.now.form.header }
+    {
+        if self.form.header.is_some() {
+            Some(number)
+        } else {
+            None
         }
     }
 }
 
-/// Appends what is told of the message that the bytes are, behind those that were skipped.
-fn tell_behind(
-    job: Job,
-    number: u64,
-    front: &[u8],
-    bytes: &[u8],
-    out: &mut Vec<u8>,
-) -> Result<(), Refusal>
-    ensures { TellsBehind (task_of job.entry) front.now bytes.now
+/// Appends what is told of a body: of the message that its bytes are, behind those that are skipped.
+fn tell_body(job: Job, number: u64, body: &[u8], out: &mut Vec<u8>) -> Result<(), Refusal>
+    ensures { TellsBody (task_of job.entry) body.now
         (record { old = out.old.items; new = out.new.items }) result }
 {
-    let (alloc, form) = (job.alloc, job.form);
-    let is_framed = form.header.is_some();
+    let (front, bytes) = behind_skipped(job.form.skip, body)?;
+    let (alloc, form, frame) = (job.alloc, job.form, job.frame(number));
     match job.work {
         Work::Lines {
             table,
             names,
             is_clear,
-        } => tell_lines(alloc, table, names, is_clear, is_framed, bytes, out),
+        } => tell_lines(alloc, table, names, is_clear, frame.is_some(), bytes, out),
         Work::Json { table, is_clear } => tell_json(alloc, table, is_clear, bytes, out),
         Work::Explain {
             table,
             names,
             style,
-        } => {
-            let frame = if is_framed { Some(number) } else { None };
-            explain(alloc, table, names, style, frame, bytes, out)
-        }
+        } => explain(alloc, table, names, style, frame, bytes, out),
         Work::ExplainJson {
             table,
             names,
@@ -81,15 +79,6 @@ fn tell_behind(
         } => explain_json(alloc, table, names, is_clear, bytes, out),
         Work::Convert { from, to } => convert(alloc, from, to, form, front, bytes, out),
     }
-}
-
-/// Appends what is told of a body.
-fn tell_body(job: Job, number: u64, body: &[u8], out: &mut Vec<u8>) -> Result<(), Refusal>
-    ensures { TellsBody (task_of job.entry) body.now
-        (record { old = out.old.items; new = out.new.items }) result }
-{
-    let (front, bytes) = behind_skipped(job.form.skip, body)?;
-    tell_behind(job, number, front, bytes, out)
 }
 
 /// Appends what stands for a body that is refused: in a stream of JSON an object, else nothing.

@@ -65,6 +65,18 @@ fn write_trailing<W: fmt::Write>(
     )
 }
 
+/// Writes that fewer bytes are there than are passed over.
+fn write_skipped<W: fmt::Write>(
+    has: usize,
+    wanted: usize,
+    f: &mut fmt::Formatter<W>,
+) -> fmt::Result {
+    write!(
+        f,
+        "Short: --skip {wanted} passes over more than is there, which ends at byte {has}: mend --skip"
+    )
+}
+
 /// Writes that the input ends inside a frame.
 fn write_cut_frame<W: fmt::Write>(there: usize, f: &mut fmt::Formatter<W>) -> fmt::Result {
     write!(
@@ -72,6 +84,14 @@ fn write_cut_frame<W: fmt::Write>(there: usize, f: &mut fmt::Formatter<W>) -> fm
         "CutFrame: the input ends inside a frame, at its byte {there}; usually a cut file, a line end at its end, or another header"
     )
 }
+
+/// What is wrong with a header, and what it usually comes of.
+const BAD_HEADER: &str =
+    "BadHeader: the header of a frame isn't of digits; usually another header, or a line end between frames";
+
+/// What is wrong where one message is wanted and a second begins.
+const SECOND: &str =
+    "a second message begins here: write each in a frame with --frames, or encode one at a time";
 
 /// Writes the sentence of a trouble, without its end.
 pub(crate) fn write_sentence<W: fmt::Write>(
@@ -81,27 +101,18 @@ pub(crate) fn write_sentence<W: fmt::Write>(
     match trouble {
         Trouble::Unpack(fault) => write_unpack(fault, f),
         Trouble::Trailing { used, end } => write_trailing(used, end, f),
-        Trouble::Skipped { has, wanted } => write!(
-            f,
-            "Short: --skip {wanted} passes over more than is there, which ends at byte {has}: mend --skip"
-        ),
+        Trouble::Skipped { has, wanted } => write_skipped(has, wanted, f),
         Trouble::Pack(fault) => write_pack(fault, f),
         Trouble::TooLong(length) => write!(
             f,
             "TooLong: a body of {length} bytes is too long for its header: take --frames binary2, which counts up to 65,535"
         ),
-        Trouble::BadHeader => write!(
-            f,
-            "BadHeader: the header of a frame isn't of digits; usually another header, or a line end between frames"
-        ),
+        Trouble::BadHeader => f.write_str(BAD_HEADER),
         Trouble::InputTooLong(most) => write!(
             f,
             "InputTooLong: there are more than {most} bytes: a stream of messages is read with --frames"
         ),
-        Trouble::Second => write!(
-            f,
-            "a second message begins here: write each in a frame with --frames, or encode one at a time"
-        ),
+        Trouble::Second => f.write_str(SECOND),
         Trouble::Hex(fault) => write!(
             f,
             "{fault}: mend the text, or leave --hex out if these are the bytes"

@@ -153,22 +153,18 @@ fn changed(
     let Some(class) = change.class.or(old.map(|spec| spec.class)) else {
         return Err(RowFault::Missing(Member::Class));
     };
-    let Some(kind) = change
-        .length
-        .or(old.map(|spec| LengthKind::of(spec.length)))
-    else {
+    let old_kind = old.map(|spec| LengthKind::of(spec.length));
+    let Some(kind) = change.length.or(old_kind) else {
         return Err(RowFault::Missing(Member::Length));
     };
     let length = length_by(change.prefix, old_digits(old), digits, kind)?;
     let Some(max) = change.max.or(old.map(|spec| spec.max)) else {
         return Err(RowFault::Missing(Member::Max));
     };
+    let coding = change.coding.or(old.map(|spec| spec.coding));
     Ok(FieldSpec {
         class,
-        coding: change
-            .coding
-            .or(old.map(|spec| spec.coding))
-            .unwrap_or(Coding::Ascii),
+        coding: coding.unwrap_or(Coding::Ascii),
         length,
         max,
         pad: change.pad.or(old.map(|spec| spec.pad)).unwrap_or(Pad::None),

@@ -120,25 +120,11 @@ fn push_characters(
     lines: &mut String,
 ) -> Result<(), AllocError> {
     let (was, is) = (class_name(old.class), class_name(new.class));
-    push_words(
-        number,
-        "class",
-        old.class != new.class,
-        was,
-        is,
-        name,
-        lines,
-    )?;
+    let is_other = old.class != new.class;
+    push_words(number, "class", is_other, was, is, name, lines)?;
     let (was, is) = (coding_name(old.coding), coding_name(new.coding));
-    push_words(
-        number,
-        "coding",
-        old.coding != new.coding,
-        was,
-        is,
-        name,
-        lines,
-    )
+    let is_other = old.coding != new.coding;
+    push_words(number, "coding", is_other, was, is, name, lines)
 }
 
 /// Appends how the length before a value differs, its digits, and the most characters.
@@ -150,27 +136,13 @@ fn push_length(
     lines: &mut String,
 ) -> Result<(), AllocError> {
     let (kind, other) = (LengthKind::of(old.length), LengthKind::of(new.length));
-    push_words(
-        number,
-        "length",
-        kind != other,
-        kind_name(kind),
-        kind_name(other),
-        name,
-        lines,
-    )?;
+    let (was, is) = (kind_name(kind), kind_name(other));
+    push_words(number, "length", kind != other, was, is, name, lines)?;
     let (digits, others) = (length_digits(old.length), length_digits(new.length));
     let (was, is) = (prefix_name(old.length), prefix_name(new.length));
     push_words(number, "prefix", digits != others, was, is, name, lines)?;
-    push_words(
-        number,
-        "max",
-        old.max != new.max,
-        old.max,
-        new.max,
-        name,
-        lines,
-    )
+    let (was, is) = (old.max, new.max);
+    push_words(number, "max", was != is, was, is, name, lines)
 }
 
 /// Appends the members of a row that differ.

@@ -25,6 +25,9 @@ const ELEMENTS: &str = "2 to 64 and 66 to 128";
 /// The classes of characters.
 const CLASSES: &str = "N, A, AN, ANS, Z, ZD, XN, B";
 
+/// The kinds of length.
+const LENGTHS: &str = "fixed, LL, LLL, LLLL";
+
 /// The paddings.
 const PADS: &str = "none, left:HH, right:HH of two hexadecimal digits HH";
 
@@ -143,13 +146,7 @@ fn push_length(
     has_four_digits: bool,
     out: &mut Vec<Finding>,
 ) -> Result<(), AllocError> {
-    push_unread(
-        row,
-        "length",
-        told.kind.is_some(),
-        "fixed, LL, LLL, LLLL",
-        out,
-    )?;
+    push_unread(row, "length", told.kind.is_some(), LENGTHS, out)?;
     match told.kind {
         None => Ok(()),
         Some(LengthKind::Fixed) => {

@@ -43,10 +43,9 @@ returns-then-not-branch g c =
     let needs = subst (λ (x : Ahead). NeedsMore h x.held) (sym step.0.window) step.1 in
     let facts = end_of h now.held later.held later.ahead c.in_ok-read_more-in-Part.field-0 needs c.in_ok-read_more-in-Part.ensures.grown
     c.if-not-branch.true c.in_ok-read_more-in-Part.ensures.end in
-    let rest = c.cut-rest.ensures ∙ ap (λ (l : List ℕ). nat_lt 0 (length l)) c.held.ensures.held in
     let Facts : Bool → Type 0 = λ some. IfSome later.ahead (λ left. NoFrame h left × (some ≡ false → left ≡ [])) in
     all_told task h before later.ahead old (g.O.Write.contents c.write.new.output) _ c.write.new.self _ c.end-then-not-branch.result so
-    (subst Facts (sym rest) facts) c.end-then-not-branch.ensures
+    (subst Facts (sym c.cut.ensures) facts) c.end-then-not-branch.ensures
 
 pub loop-preserved : goal.loop-preserved
 loop-preserved g c =

@@ -1,6 +1,6 @@
 use Rattle.iso_jobs.specs.Encoding.{target_of}
 use Rattle.iso_jobs.proofs.TextStreams.{MadeSoFar}
-use Rattle.iso_jobs.proofs.encoding.make_messages.Given as goal
+use Rattle.iso_jobs.proofs.encoding.make_all.Given as goal
 
 -- what is left of the input, and what was made and written of the texts before it
 abbrev pub invariant-loop : goal.invariant-loop

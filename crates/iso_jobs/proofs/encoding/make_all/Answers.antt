@@ -1,17 +1,17 @@
 use Rattle.std.proofs.Common.{◌≡◌, ◌∙◌, List, ℕ, Bool, sym, ap, subst}
 use Rattle.std.specs.Prelude.{IfSome}
 use Rattle.iso_input.specs.Window.{Ahead}
-use Rattle.iso_jobs.specs.Encoding.{Cuts, Target}
+use Rattle.iso_jobs.specs.Encoding.{Cuts, target_of}
 use Rattle.iso_jobs.specs.Frames.{Progress}
 use Rattle.iso_jobs.specs.Making.{IsText}
 use Rattle.iso_jobs.proofs.Streams.{held_same}
 use Rattle.iso_jobs.proofs.TextStreams.{all_made, made_took, made_waits, made_written}
-use Rattle.iso_jobs.proofs.encoding.make_messages.Goals as goal
-use Rattle.iso_jobs.proofs.encoding.make_messages.Goals.{then-not-branch+in_ok-write+else-held-gt-MOST_TEXT+in_ok-read_more+else-not-branch-2, else-not-branch}
+use Rattle.iso_jobs.proofs.encoding.make_all.Goals as goal
+use Rattle.iso_jobs.proofs.encoding.make_all.Goals.{then-not-branch+in_ok-write+else-held-gt-MOST_TEXT+in_ok-read_more+else-not-branch-2, else-not-branch}
 
 pub returns-then-not-branch-2 : goal.returns-then-not-branch-2
 returns-then-not-branch-2 g c =
-    let target : Target = record { table = c.args.table.now; form = c.args.form } in
+    let target = target_of c.args.making in
     let before = g.R.Read.remaining c.args.input in
     let old = g.O.Write.contents c.args.output.now in
     let mid = g.O.Write.contents c.loop.output in
@@ -31,14 +31,12 @@ returns-then-not-branch-2 g c =
     let held : rest ≡ later.held = c.held-rest.ensures.held in
     let is : IsText rest = subst IsText (sym (held ∙ same)) step.1 in
     let last = subst (λ (l : List ℕ). IfSome later.ahead (λ left. left ≡ l)) (sym held) (c.in_ok-read_more.ensures.end c.if-not-branch-2.true) in
-    record {
-      made = all_made target before later.ahead old (g.O.Write.contents c.write.new.output) _ c.write.new.self rest c.close.result so last is
-          c.close.ensures;
-    }
+    all_made target before later.ahead old (g.O.Write.contents c.write.new.output) _ c.write.new.self rest c.close.result so last is
+    c.close.ensures
 
 pub loop-preserved : goal.loop-preserved
 loop-preserved g c =
-    let target : Target = record { table = c.args.table.now; form = c.args.form } in
+    let target = target_of c.args.making in
     let before = g.R.Read.remaining c.args.input in
     let old = g.O.Write.contents c.args.output.now in
     let mid = g.O.Write.contents c.loop.output in
