@@ -90,11 +90,11 @@ impl Issuer {
         let found = self.journal.find(order, &effect);
         let placed = balance_for(&self.balances, order);
         let answer = new_answer(&self.journal, &placed, order, &effect, found.left);
-        self.journal.enter(order, &effect, answer, &found)?;
         let entry = Entry {
             order: *order,
             answer,
         };
+        self.journal.enter(&entry, &effect, &found)?;
         post_all(
             &self.journal,
             &mut self.balances,

@@ -294,59 +294,49 @@ impl Journal {
         }
     }
 
-    /// Enters an order of a new key, which has this effect, with its answer. Where there is no memory for
-    /// it, whatever the call added is taken away again.
+    /// Enters an entry of a new key, whose order has this effect. Where there is no memory for it, whatever the call added
+    /// is taken away again.
     pub fn enter(
         &mut self,
-        order: &Order,
+        entry: &Entry,
         effect: &Option<Effect>,
-        answer: Answer,
         found: &Found,
     ) -> Result<(), AllocError>
         // The effect is what this order does to its account.
-        requires effect { effect.now ≡ effect_of order.now }
+        requires effect { effect.now ≡ effect_of entry.now.order }
         // What was found is what this journal has for the order.
-        requires found { IsFoundFor self.old order.now found.now }
+        requires found { IsFoundFor self.old entry.now.order found.now }
         // No entry has the order's key yet.
-        requires new { entry_at self.old order.now.key ≡ None }
+        requires new { entry_at self.old entry.now.order.key ≡ None }
         // No two orders that were entered have one key.
         requires distinct { HasDistinctKeys (map (λ e. e.order) self.old) }
         // The journal has fewer than 999,999 entries.
         requires few { length self.old < 999999 }
         // The answer tells the place of the new entry, counted from 1.
-        requires seq { answer.seq ≡ length self.old + 1 }
-        // Memory aside, the order comes with its answer behind all other entries.
-        ensures ok { OnOk result
-            (self.new ≡ self.old ++ record { order = order.now; answer = answer } ∷ []) }
+        requires seq { entry.now.answer.seq ≡ length self.old + 1 }
+        // Memory aside, the entry comes behind all others.
+        ensures ok { OnOk result (self.new ≡ self.old ++ entry.now ∷ []) }
         // Without memory the entries stay as they were.
         ensures unchanged { OnErr result (self.new ≡ self.old) }
     {
-        let entry = Entry {
-            order: *order,
-            answer,
-        };
-        let added = added_by(found.left, &entry, effect);
-        let dropped = dropped_by_order(order, &found.reversed);
-        let key = order.key();
+        let added = added_by(found.left, entry, effect);
+        let dropped = dropped_by_order(&entry.order, &found.reversed);
+        let key = entry.order.key();
         let place = self.orders.len() as u32;
         let slot = self.places.prepare(&self.orders, &key)?;
-        match store(
+        if let Err(fault) = store(
             &mut self.orders,
             &mut self.codes,
             &mut self.shown,
             &mut self.index,
-            entry,
+            *entry,
             added,
             dropped,
         ) {
-            Ok(()) => {
-                self.places.settle(&key, place, slot);
-                Ok(())
-            }
-            Err(fault) => {
-                self.places.withdraw(&key);
-                Err(fault)
-            }
+            self.places.withdraw(&key);
+            return Err(fault);
         }
+        self.places.settle(&key, place, slot);
+        Ok(())
     }
 }

@@ -126,16 +126,13 @@ impl Act {
             Act::Debit(a) => matches!(other, Act::Debit(b) if a.is_same(b)),
             Act::Credit(a) => matches!(other, Act::Credit(b) if a.is_same(b)),
             Act::Inquiry(a) => matches!(other, Act::Inquiry(b) if a.is_same(b)),
-            Act::Undo {
-                original: a,
-                left: l,
-            } => {
+            Act::Undo { original, left } => {
                 if let Act::Undo {
                     original: b,
                     left: n,
                 } = other
                 {
-                    a.is_same(b) && *l == *n
+                    original.is_same(b) && *left == *n
                 } else {
                     false
                 }

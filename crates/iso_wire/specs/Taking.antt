@@ -1,6 +1,6 @@
 -- The bytes that an unpacker takes: what a piece leaves of them, and what is built of them.
 -- Inner: bodies and proofs cite it, and no public clause does.
-use Rattle.std.specs.Prelude.{◌≡◌, ◌≢◌, ◌⊎◌, ℕ, ◌+◌, ◌≤◌, List, [], ◌++◌, length, take, Option, Some, None, Result, Ok, Err}
+use Rattle.std.specs.Prelude.{◌≡◌, ◌≢◌, ◌⊎◌, ℕ, ◌+◌, ◌-◌, ◌≤◌, ◌<◌, ◌^◌, List, [], ◌++◌, length, take, Option, Some, None, Result, Ok, Err}
 use Rattle.iso_wire.specs.declared.fault.UnpackFault.{UnpackFault}
 use Rattle.iso_wire.specs.declared.fault.UnpackCause.TheVariants.{Short, Memory}
 use Rattle.iso_wire.specs.declared.unpacker.Fed.{Fed}
@@ -40,6 +40,21 @@ abbrev pub IsBuilt : ℕ → Result (Contents × ℕ) UnpackFault → Result (Co
     → Type 0
 IsBuilt before (Ok x) read = read ≡ whole x.0 (before + x.1)
 IsBuilt before (Err e) read = e ≡ out_of_memory
+
+-- what building leaves of the bytes taken: nothing of a message that was built; without memory those before the last piece
+abbrev pub LeavesBuilt : ℕ → List ℕ → List ℕ → Result (Contents × ℕ) UnpackFault → Type 0
+LeavesBuilt before old new (Ok x) = (new ≡ []) × (x.1 ≤ length old - before)
+LeavesBuilt before old new (Err e) = new ≡ take before old
+
+-- the answer to a piece, by that to what stands behind its first bytes, so many: these belong to the message too
+abbrev pub fed_with_front : ℕ → Fed → Fed
+fed_with_front front (fed.Done message used) = fed.Done message (front + used)
+fed_with_front front fed.More = fed.More
+
+-- so many bytes more can be counted
+abbrev pub FitsWithFront : ℕ → Fed → Type 0
+FitsWithFront front (fed.Done message used) = front + used < 2 ^ 64
+FitsWithFront front fed.More = Unit {0}
 
 -- a piece, or its first bytes, so many
 abbrev pub IsPieceOrFront : ℕ → List ℕ → List ℕ → Type 0

@@ -43,6 +43,21 @@ struct JudgingStop {
     fault: UnpackFault,
 }
 
+impl JudgingStop {
+    /// The piece that begins at `at` is not a good one, and judging goes on from the point.
+    fn new(point: ResumePoint, element: u8, at: usize, cause: UnpackCause) -> JudgingStop
+        ensures { result ≡ record {
+          point = point;
+          fault = record { at = at; element = element; cause = cause };
+        } }
+    {
+        JudgingStop {
+            point,
+            fault: UnpackFault::stop(element, at, cause),
+        }
+    }
+}
+
 /// Where the body of `count` characters ends, which begins at `at`.
 pub fn body_end(
     row: &FieldSpec,
@@ -86,8 +101,7 @@ fn judge_value(
 {
     let point = ResumePoint::Body { n, count, rest, at };
     let Some(row) = table.row(n) else {
-        let fault = UnpackFault::stop(n, at, UnpackCause::UnknownElement(n));
-        return Err(JudgingStop { point, fault });
+        return Err(JudgingStop::new(point, n, at, UnpackCause::UnknownElement(n)));
     };
     match body_end(row, n, count, at, bytes) {
         Ok(end) => Ok(end),
@@ -112,21 +126,14 @@ fn judge_pieces(
     iso_parts::laws::parts();
     let point = ResumePoint::Elements { rest: from, at };
     let Some(row) = table.row(n) else {
-        let fault = UnpackFault::stop(n, at, UnpackCause::UnknownElement(n));
-        return Err(JudgingStop { point, fault });
+        return Err(JudgingStop::new(point, n, at, UnpackCause::UnknownElement(n)));
     };
     let front = row.length.prefix_size();
     let (_, part) = bytes.split_at(at);
     match judge_length(row, part) {
         Ok(Some(count)) => judge_value(table, n, count, rest, at + front, bytes),
-        Ok(None) => {
-            let fault = UnpackFault::stop(n, at, UnpackCause::Short);
-            Err(JudgingStop { point, fault })
-        }
-        Err(fault) => {
-            let fault = UnpackFault::stop(n, at, UnpackCause::Field(fault));
-            Err(JudgingStop { point, fault })
-        }
+        Ok(None) => Err(JudgingStop::new(point, n, at, UnpackCause::Short)),
+        Err(fault) => Err(JudgingStop::new(point, n, at, UnpackCause::Field(fault))),
     }
 }
 

@@ -5,7 +5,17 @@ ghost use Rattle.iso_table.specs.Layout.{AreGood};
 ghost use Rattle.iso_table.specs.Sizes.{max_bytes};
 ghost use Rattle.iso_wire.specs.Unpacking.{read_into};
 ghost use Rattle.iso_wire.specs.Unpacker.{Feeds, FoundFed, StopsFed};
-ghost use Rattle.iso_wire.specs.Taking.{IsRead, IsBuilt, IsPieceOrFront, KeepsTaken, IsReadyAfter, ResumesIn};
+ghost use Rattle.iso_wire.specs.Taking.{
+  IsRead,
+  IsBuilt,
+  LeavesBuilt,
+  IsPieceOrFront,
+  KeepsTaken,
+  IsReadyAfter,
+  ResumesIn,
+  FitsWithFront,
+  fed_with_front,
+};
 ghost use Rattle.iso_wire.specs.declared.fault.UnpackCause.{UnpackCause};
 ghost use Rattle.iso_wire.specs.declared.fault.UnpackCause.TheVariants.{Short};
 ghost use Rattle.iso_wire.specs.Reading.{halt, message_at, Unpacks};
@@ -41,6 +51,33 @@ fn build(
     match build_judged(alloc, table, bytes) {
         Ok((message, end)) => Ok((message, end - before)),
         Err(fault) => Err(fault),
+    }
+}
+
+/// Builds the message that was judged good of the bytes that are taken, and takes these away. Without memory those behind
+/// the first `before` are taken away alone.
+#[inline(always)]
+fn build_taken(
+    alloc: Global,
+    table: &Table,
+    before: usize,
+    taken: &mut Vec<u8>,
+) -> Result<(Message, usize), UnpackFault>
+    requires within { before ≤ length taken.old.items }
+    requires short { IsShort (message_at table.now (take before taken.old.items)) }
+    requires read { IsRead (message_at table.now taken.old.items) }
+    ensures exact { IsBuilt before result (message_at table.now taken.old.items) }
+    ensures kept { LeavesBuilt before taken.old.items taken.new.items result }
+{
+    match build(alloc, table, before, taken) {
+        Ok((message, used)) => {
+            taken.clear();
+            Ok((message, used))
+        }
+        Err(fault) => {
+            taken.truncate(before);
+            Err(fault)
+        }
     }
 }
 
@@ -99,9 +136,7 @@ fn take_next(
     // any call on the table tells the proof that its rows are good
     let _version = table.version();
     let before = taken.len();
-    if taken.extend_from_slice(piece).is_err() {
-        return Err(UnpackFault::memory());
-    }
+    taken.extend_from_slice(piece)?;
     let (reached, read) = judge_from(table, *point, taken);
     if let Err(fault) = read {
         if fault.cause == UnpackCause::Short {
@@ -112,16 +147,22 @@ fn take_next(
         *point = ResumePoint::Type;
         return Err(fault);
     }
-    match build(alloc, table, before, taken) {
-        Ok((message, used)) => {
-            taken.clear();
-            *point = ResumePoint::Type;
-            Ok(Fed::Done { message, used })
+    let (message, used) = build_taken(alloc, table, before, taken)?;
+    *point = ResumePoint::Type;
+    Ok(Fed::Done { message, used })
+}
+
+/// The answer to a piece, by that to what stands behind its first `front` bytes.
+fn with_front(front: usize, fed: Fed) -> Fed
+    requires { FitsWithFront front fed }
+    ensures { result ≡ fed_with_front front fed }
+{
+    match fed {
+        Fed::Done { message, used } => {
+            let used = front + used;
+            Fed::Done { message, used }
         }
-        Err(fault) => {
-            taken.truncate(before);
-            Err(fault)
-        }
+        Fed::More => Fed::More,
     }
 }
 
@@ -148,28 +189,19 @@ fn take_parts(
     let start = *point;
     let held = taken.len();
     let room = (taken.capacity() - held).max(1);
-    if piece.len() <= room {
+    let Some((front, rest)) = piece.split_at_checked(room) else {
         return take_next(alloc, table, point, taken, piece);
+    };
+    match take_next(alloc, table, point, taken, front)? {
+        Fed::More => {}
+        done => return Ok(done),
     }
-    let (front, rest) = piece.split_at(room);
-    match take_next(alloc, table, point, taken, front) {
-        Ok(Fed::More) => match take_parts(alloc, table, point, taken, rest) {
-            Ok(Fed::More) => Ok(Fed::More),
-            Ok(Fed::Done { message, used }) => {
-                let used = room + used;
-                Ok(Fed::Done { message, used })
-            }
-            Err(fault) => {
-                if fault.cause == UnpackCause::Memory {
-                    taken.truncate(held);
-                    *point = start;
-                }
-                Err(fault)
-            }
-        },
-        Ok(Fed::Done { message, used }) => Ok(Fed::Done { message, used }),
-        Err(fault) => Err(fault),
+    let fed = take_parts(alloc, table, point, taken, rest);
+    if matches!(&fed, Err(fault) if fault.cause == UnpackCause::Memory) {
+        taken.truncate(held);
+        *point = start;
     }
+    Ok(with_front(room, fed?))
 }
 
 /// Takes a further piece behind the bytes that were taken before it.

@@ -1,4 +1,4 @@
-use Rattle.std.proofs.Common.{ℕ, List, Err, ◌+◌, sym, ap, ◌∙◌, refl}
+use Rattle.std.proofs.Common.{ℕ, List, ◌+◌, sym, refl}
 use Rattle.iso_parts.specs.Reading.{prefix_size}
 use Rattle.iso_wire.specs.declared.judging.ResumePoint.TheVariants as points
 use Rattle.iso_parts.specs.Numbers.{members}
@@ -22,8 +22,8 @@ returns-in-Err c =
     let s = c.in-Some.row.now in
     let b : List ℕ = c.args.bytes.now in
     let read = rw c.split_at.ensures.back at c.in-Err.ensures.exact in
-    record {
-      read = length_ends c.parts.ensures t.rows s (members c.args.from) (members c.args.rest) c.args.n c.args.at b c.in-Err.fault c.requires.first (sym c.in-Some.ensures.row) (sym read) ∙ ap Err (sym c.stop-fault-in-Err.ensures);
+    rw c.new-in-Err.ensures (record {
+      read = length_ends c.parts.ensures t.rows s (members c.args.from) (members c.args.rest) c.args.n c.args.at b c.in-Err.fault c.requires.first (sym c.in-Some.ensures.row) (sym read);
       goes_on = λ x. refl;
       within = c.requires.within;
-    }
+    })
