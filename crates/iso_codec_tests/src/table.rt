@@ -77,15 +77,20 @@ fn has_row(table: &Table, element: u8, row: Option<FieldSpec>) -> bool {
     table.row(element).copied() == row && table.known().has(element) == row.is_some()
 }
 
-/// Whether the table has these rows, and none at the numbers that no element has.
+/// Whether the table has these rows.
 fn has_rows(table: &Table, rows: &[(u8, FieldSpec)]) -> bool {
     for (element, row) in rows {
         if !has_row(table, *element, Some(*row)) {
             return false;
         }
     }
-    for element in [0, 1, 65, 129, 255] {
-        if !has_row(table, element, None) {
+    true
+}
+
+/// Whether the table has no row at the numbers that no element has.
+fn has_elements_alone(table: &Table) -> bool {
+    for number in [0, 1, 65, 129, 255] {
+        if !has_row(table, number, None) {
             return false;
         }
     }
@@ -99,6 +104,7 @@ fn says_so(table: &Table, says: &Says) -> bool {
         && table.max_bytes() == says.max_bytes
         && table.host_ready() == says.host
         && has_rows(table, says.rows)
+        && has_elements_alone(table)
 }
 
 /// Whether both tables write messages alike, and have the same row for each element, or none.

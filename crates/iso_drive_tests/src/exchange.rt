@@ -101,13 +101,13 @@ const ELEMENTS: &[(u8, &[u8])] = &[
     (54, b"0002840C000000005000"),
 ];
 
-/// Such a response, without the element of that number, and with so many zeros behind it.
+/// Such a response, without the element of that number, and with these bytes behind it.
 fn response(
     alloc: Global,
     table: &Table,
     mti: &[u8],
     without: u8,
-    behind: usize,
+    behind: &[u8],
 ) -> Option<Vec<u8>> {
     let mut message = Message::new(alloc, Mti::from_text(mti)?);
     for (n, value) in ELEMENTS {
@@ -116,19 +116,17 @@ fn response(
         }
     }
     let mut body = pack(alloc, table, &message).ok()?;
-    for _ in 0..behind {
-        body.push(0).ok()?;
-    }
+    body.extend_from_slice(behind).ok()?;
     Some(body)
 }
 
-/// A body, and which transaction's answer it is: its type, the element that it lacks, the zeros behind it.
-const ANSWERS: &[(&[u8], u8, usize, Option<u16>)] = &[
-    (b"0110", 0, 0, Some(100)),
-    (b"0210", 0, 0, Some(200)),
-    (b"0430", 0, 0, Some(420)),
-    (b"0210", 0, 1, None),
-    (b"0210", 39, 0, None),
+/// A body, and which transaction's answer it is: its type, the element that it lacks, the bytes behind it.
+const ANSWERS: &[(&[u8], u8, &[u8], Option<u16>)] = &[
+    (b"0110", 0, b"", Some(100)),
+    (b"0210", 0, b"", Some(200)),
+    (b"0430", 0, b"", Some(420)),
+    (b"0210", 0, b"\0", None),
+    (b"0210", 39, b"", None),
 ];
 
 /// What the body tells is what is wanted.
@@ -149,7 +147,7 @@ fn is_told(alloc: Global, table: &Table, body: Option<Vec<u8>>, base: Option<u16
 /// Ends the test unless each body tells what it is to tell.
 fn check_answers(alloc: Global, table: &Table) -> Result<(), Fail> {
     for (mti, without, behind, base) in ANSWERS {
-        let body = response(alloc, table, mti, *without, *behind);
+        let body = response(alloc, table, mti, *without, behind);
         check(is_told(alloc, table, body, *base), "an answer")?;
     }
     check(

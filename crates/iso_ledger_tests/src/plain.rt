@@ -54,6 +54,7 @@ pub fn money(plain: &Plain) -> Option<Money> {
     })
 }
 
+/// What is asked.
 pub fn act(plain: &Plain) -> Option<Act> {
     let money = money(plain)?;
     Some(match plain.does {

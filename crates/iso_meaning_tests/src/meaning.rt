@@ -32,13 +32,21 @@ const TRANSACTIONS: &[(&[u8], Option<&str>)] = &[
 ];
 
 #[test]
-fn codes(rt: HostRuntime) {
+fn response_codes(rt: HostRuntime) {
     for (code, wanted) in RESPONSES {
         assert_eq!(rt; response_code(code), *wanted);
     }
+}
+
+#[test]
+fn transaction_types(rt: HostRuntime) {
     for (code, wanted) in TRANSACTIONS {
         assert_eq!(rt; transaction_type(code), *wanted);
     }
+}
+
+#[test]
+fn other_codes(rt: HostRuntime) {
     assert_eq!(rt; account_type(b"20"), Some("Cheque"));
     assert_eq!(rt; account_type(b"21"), None);
     assert_eq!(rt; amount_type(b"02"), Some("Available balance"));

@@ -177,6 +177,21 @@ const OUTCOMES: &[(&[u8], Ending, usize, bool, &str, &str)] = &[
     ),
 ];
 
+/// Whether the exchange ended as it should, and what is told of it. The host was to answer with these two bodies.
+fn outcome_of(
+    alloc: Global,
+    telling: Telling<'_>,
+    done: &Exchanged,
+    is_json: bool,
+) -> Result<(bool, Vec<u8>), Fail> {
+    let nowhere = SocketAddr::from((Ipv4Addr::LOCALHOST, 9));
+    let expected: &[&[u8]] = &[b"xyz", b"w"];
+    let day = day_of(nowhere, telling, is_json);
+    let mut out = Vec::new(alloc);
+    let is_good = append_outcome(alloc, &day, expected, done, &mut out)?;
+    Ok((is_good, out))
+}
+
 #[test]
 fn outcomes(rt: HostRuntime) -> Result<(), Fail> {
     let alloc = rt.alloc();
@@ -186,21 +201,18 @@ fn outcomes(rt: HostRuntime) -> Result<(), Fail> {
         names: &names,
         is_clear: false,
     };
-    let nowhere = SocketAddr::from((Ipv4Addr::LOCALHOST, 9));
-    let expected: &[&[u8]] = &[b"xyz", b"w"];
     for (came, ending, unsent, is_good, lines, json) in OUTCOMES {
         let done = Exchanged {
             ending: *ending,
             came: Vec::from_slice(alloc, came)?,
             unsent: *unsent,
         };
-        for (is_json, told) in [(false, *lines), (true, *json)] {
-            let mut out = Vec::new(alloc);
-            let day = day_of(nowhere, telling, is_json);
-            let good = append_outcome(alloc, &day, expected, &done, &mut out)?;
-            assert_eq!(rt; good, *is_good, "{told}");
-            assert_eq!(rt; out.as_slice(), told.as_bytes(), "{told}");
-        }
+        let (good, told) = outcome_of(alloc, telling, &done, false)?;
+        assert_eq!(rt; good, *is_good, "{lines}");
+        assert_eq!(rt; told.as_slice(), lines.as_bytes(), "{lines}");
+        let (good, told) = outcome_of(alloc, telling, &done, true)?;
+        assert_eq!(rt; good, *is_good, "{json}");
+        assert_eq!(rt; told.as_slice(), json.as_bytes(), "{json}");
     }
     Ok(())
 }

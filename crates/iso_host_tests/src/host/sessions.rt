@@ -54,13 +54,14 @@ pub const NO_FRAMES: Report = Report {
     unreadable: 0,
 };
 
-/// The reports of one frame and of two that are answered.
+/// The report of one frame that is answered.
 pub const ONE_ANSWERED: Report = Report {
     frames: 1,
     answered: 1,
     ..NO_FRAMES
 };
 
+/// The report of two frames that are answered.
 pub const TWO_ANSWERED: Report = Report {
     frames: 2,
     answered: 2,

@@ -43,6 +43,7 @@ const AGAIN: Held = (1, Some(State::Waiting(2)));
 
 const REVERSING: Held = (1, Some(State::Reversing));
 
+/// One transaction, which is approved.
 pub const APPROVED: Held = (1, Some(State::Approved));
 
 const REVERSED: Held = (1, Some(State::Reversed));
@@ -53,6 +54,7 @@ const OTHER_ASKED: Held = (2, Some(State::Waiting(1)));
 
 const OTHER_DECLINED: Held = (2, Some(State::Declined(51)));
 
+/// Schedules of one account with 50.00, and how the transaction stands after each step.
 pub const SCHEDULES: &[Schedule] = &[
     Schedule {
         name: "reversed before it came",

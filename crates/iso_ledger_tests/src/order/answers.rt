@@ -30,6 +30,7 @@ pub const ANSWER: &[(u8, &'static [u8])] = &[
 /// A message that tells nothing.
 const NOTHING_TOLD: Wants = Wants::Told(None);
 
+/// Responses and other messages, and which answer each tells to which request.
 pub const MESSAGES: &[Asking] = &[
     ("granted", 210, Nothing, told!(200, 0)),
     ("declined", 210, Set(39, b"51"), told!(200, 51)),

@@ -37,6 +37,7 @@ pub const COMPLETION: &[(u8, &'static [u8])] = &[
     (90, b"010000001001020304050000001234500000000000"),
 ];
 
+/// Completions of a hold, and which order each asks for.
 pub const COMPLETIONS: &[Asking] = &[
     ("as it stands", 220, Nothing, complete_of!(100)),
     ("a repeat", 221, Nothing, complete_of!(100)),

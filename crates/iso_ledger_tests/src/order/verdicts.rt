@@ -31,6 +31,7 @@ const CREDIT: Wants = Wants::Order(credit!(key!(200), ACCOUNT, 1000, *b"840"));
 
 const INQUIRY: Wants = Wants::Order(inquiry!(key!(100), ACCOUNT, 0, *b"840"));
 
+/// Requests of payments, and which order each asks for.
 pub const PAYMENTS: &[Asking] = &[
     ("as it stands", 200, Nothing, debit_of!(200)),
     ("a repeat", 201, Nothing, debit_of!(200)),
@@ -67,6 +68,7 @@ pub const PAYMENTS: &[Asking] = &[
     ),
 ];
 
+/// Requests of payments that ask for no order, and how each is answered.
 pub const REFUSED_PAYMENTS: &[Asking] = &[
     ("of another version", 1200, Nothing, Wants::Silence),
     ("a response", 210, Nothing, Wants::Silence),
@@ -159,6 +161,7 @@ pub const REFUSED_PAYMENTS: &[Asking] = &[
     ("a reversal of nothing", 420, Nothing, Wants::Reply(30)),
 ];
 
+/// Reversals, and which order each asks for.
 pub const REVERSALS: &[Asking] = &[
     ("as it stands", 420, Nothing, undo_of!(200, 0)),
     ("a repeat", 421, Nothing, undo_of!(200, 0)),
@@ -244,6 +247,7 @@ pub const REVERSALS: &[Asking] = &[
     ("without a time", 420, Without(7), Wants::Reply(30)),
 ];
 
+/// Messages of network management, and how each is answered.
 pub const NETWORK_MESSAGES: &[Asking] = &[
     ("sign on", 800, Set(70, b"001"), Wants::Reply(0)),
     ("sign off", 820, Set(70, b"002"), Wants::Reply(0)),
