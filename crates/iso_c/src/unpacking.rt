@@ -3,7 +3,7 @@
 ghost use Rattle.std.specs.Prelude.{◌≡◌, ◌≤◌, [], ◌∷◌, ◌++◌, length, OnOk, IfOk, IfErr};
 ghost use Rattle.iso_c.specs.Answers.{KeepsFault};
 ghost use Rattle.iso_c.specs.Parts.{part_of, parts_from, values_of};
-ghost use Rattle.iso_c.specs.Spreading.{IsSpread, IsSpreadHeld, GivesMessage};
+ghost use Rattle.iso_c.specs.Spreading.{IsSpread, IsSpreadHeld, GivesSpread, GivesMessage};
 ghost use Rattle.iso_c.specs.Unpacking.{IsReadFault, IsReadFaultHeld, IsUnpackReply};
 
 use crate::answers::{length_of, refuse};
@@ -95,6 +95,31 @@ fn read_held(
     }
 }
 
+/// Puts what was found at the front of rooms that are large enough for it.
+fn fill_rooms(
+    found: &SpreadMessage,
+    message: &mut RumpadolMessage,
+    parts: &mut [RumpadolPart],
+    values: &mut [u8],
+)
+    requires few { length found.now.parts.items ≤ length parts.old }
+    requires room { length found.now.values.items ≤ length values.old }
+    ensures { GivesSpread found.now found.now.used (record {
+      old = record { message = message.old; parts = parts.old; values = values.old };
+      new = record { message = message.new; parts = parts.new; values = values.new };
+    }) }
+{
+    let (places, _) = parts.split_at_mut(found.parts.len());
+    places.copy_from_slice(&found.parts);
+    let (room, _) = values.split_at_mut(found.values.len());
+    room.copy_from_slice(&found.values);
+    *message = RumpadolMessage {
+        mti: u32::from(found.mti),
+        parts: found.parts.len(),
+        values: found.values.len(),
+    };
+}
+
 /// Gives what was found where there is room, and answers how many bytes the message takes.
 fn give_message(
     found: &SpreadMessage,
@@ -123,15 +148,7 @@ fn give_message(
             fault,
         );
     }
-    let (places, _) = parts.split_at_mut(found.parts.len());
-    places.copy_from_slice(&found.parts);
-    let (room, _) = values.split_at_mut(found.values.len());
-    room.copy_from_slice(&found.values);
-    *message = RumpadolMessage {
-        mti: u32::from(found.mti),
-        parts: found.parts.len(),
-        values: found.values.len(),
-    };
+    fill_rooms(found, message, parts, values);
     length_of(found.used, bytes)
 }
 

@@ -29,13 +29,9 @@ fn write_request(
     client.write_end(out, &[])
 }
 
-/// The text of a request.
-pub fn request_text(
-    alloc: Global,
-    client: &mut Client,
-    request: &Request<'_>,
-) -> Result<Vec<u8>, Cause> {
-    let fields = [
+/// The fields of a request, where a user shows a token: that is the last one.
+fn fields_of<'a>(request: &Request<'a>) -> [Header<'a>; 3] {
+    [
         Header {
             name: b"host",
             value: request.host,
@@ -48,15 +44,19 @@ pub fn request_text(
             name: b"authorization",
             value: request.token.unwrap_or(b""),
         },
-    ];
+    ]
+}
+
+/// The text of a request.
+pub fn request_text(
+    alloc: Global,
+    client: &mut Client,
+    request: &Request<'_>,
+) -> Result<Vec<u8>, Cause> {
+    let fields = fields_of(request);
     let count = if request.token.is_some() { 3 } else { 2 };
     let mut out = Vec::new(alloc);
-    match write_request(
-        &mut out,
-        client,
-        request,
-        fields.get(..count).unwrap_or(&[]),
-    ) {
+    match write_request(&mut out, client, request, &fields[..count]) {
         Ok(()) => Ok(out),
         Err(WriteError::OutOfMemory) => Err(Cause::Memory),
         Err(_) => Err(Cause::Unwritable),

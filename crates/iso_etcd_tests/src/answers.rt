@@ -82,33 +82,35 @@ fn judged(alloc: Global, status: u16, body: &str) -> Result<String, Fail> {
     Ok(format!(in alloc; "{append:?}")?)
 }
 
+/// Answers to an append: a name, the status, the body, and what the append came to.
+const APPENDS: &[(&str, u16, &str, &str)] = &[
+    ("put", 200, PUT, "Appended"),
+    ("this one stands", 200, STANDS, "Appended"),
+    ("another one stands", 200, EMPTY, "Taken([])"),
+    ("no answer", 200, NOTHING, "Unknown(Unreadable)"),
+    (
+        "a success of another status",
+        201,
+        PUT,
+        "Unknown(Status(201))",
+    ),
+    ("no space", 429, NO_SPACE, "Unknown(NoSpace)"),
+    ("too many requests", 429, TOO_MANY, "Unknown(Status(429))"),
+    ("the token isn't taken", 401, BAD_TOKEN, "Unknown(Denied)"),
+    ("not allowed", 403, "{}", "Unknown(Denied)"),
+    (
+        "no leader",
+        503,
+        "{\"error\":\"etcdserver: no leader\",\"code\":14}",
+        "Unknown(Status(503))",
+    ),
+    ("no JSON", 404, "Not Found\n", "Unknown(Status(404))"),
+];
+
 #[test]
 fn appends(rt: HostRuntime) -> Result<(), Fail> {
-    let alloc = rt.alloc();
-    for (name, status, body, wanted) in [
-        ("put", 200, PUT, "Appended"),
-        ("this one stands", 200, STANDS, "Appended"),
-        ("another one stands", 200, EMPTY, "Taken([])"),
-        ("no answer", 200, NOTHING, "Unknown(Unreadable)"),
-        (
-            "a success of another status",
-            201,
-            PUT,
-            "Unknown(Status(201))",
-        ),
-        ("no space", 429, NO_SPACE, "Unknown(NoSpace)"),
-        ("too many requests", 429, TOO_MANY, "Unknown(Status(429))"),
-        ("the token isn't taken", 401, BAD_TOKEN, "Unknown(Denied)"),
-        ("not allowed", 403, "{}", "Unknown(Denied)"),
-        (
-            "no leader",
-            503,
-            "{\"error\":\"etcdserver: no leader\",\"code\":14}",
-            "Unknown(Status(503))",
-        ),
-        ("no JSON", 404, "Not Found\n", "Unknown(Status(404))"),
-    ] {
-        check(judged(alloc, status, body)?.as_str() == wanted, name)?;
+    for (name, status, body, wanted) in APPENDS {
+        check(judged(rt.alloc(), *status, body)?.as_str() == *wanted, name)?;
     }
     Ok(())
 }

@@ -46,40 +46,42 @@ fn good_ones(rt: HostRuntime) -> Result<(), Fail> {
     Ok(())
 }
 
+/// Texts that name no place, and the fault of each.
+const BAD_ONES: &[(&str, &str)] = &[
+    ("", "Scheme"),
+    ("http://a:1/day", "Scheme"),
+    ("etcd:/a:1/day", "Scheme"),
+    ("etcd://a:1", "NoName"),
+    ("etcd://a:1/", "Name"),
+    ("etcd://a:1/day/two", "Name"),
+    ("etcd:///day", "Member"),
+    ("etcd://a/day", "Member"),
+    ("etcd://a:/day", "Member"),
+    ("etcd://a:0/day", "Member"),
+    ("etcd://a:02379/day", "Member"),
+    ("etcd://a:+1/day", "Member"),
+    ("etcd://a:65536/day", "Member"),
+    ("etcd://:1/day", "Member"),
+    ("etcd://a b:1/day", "Member"),
+    ("etcd://a:1,/day", "Member"),
+    ("etcd://::1:1/day", "Member"),
+    ("etcd://[::1]/day", "Member"),
+    ("etcd://[::1:1/day", "Member"),
+    ("etcd://x[::1]:1/day", "Member"),
+    ("etcd://[127.0.0.1]:1/day", "Member"),
+    ("etcd://ann@a:1/day", "User"),
+    ("etcd://:p@a:1/day", "User"),
+    ("etcd://ann:@a:1/day", "User"),
+    (
+        "etcd://a:1,a:2,a:3,a:4,a:5,a:6,a:7,a:8,a:9,a:10,a:11,a:12,a:13,a:14,a:15,a:16,a:17/d",
+        "TooMany",
+    ),
+];
+
 #[test]
 fn bad_ones(rt: HostRuntime) -> Result<(), Fail> {
-    let alloc = rt.alloc();
-    for (text, wanted) in [
-        ("", "Scheme"),
-        ("http://a:1/day", "Scheme"),
-        ("etcd:/a:1/day", "Scheme"),
-        ("etcd://a:1", "NoName"),
-        ("etcd://a:1/", "Name"),
-        ("etcd://a:1/day/two", "Name"),
-        ("etcd:///day", "Member"),
-        ("etcd://a/day", "Member"),
-        ("etcd://a:/day", "Member"),
-        ("etcd://a:0/day", "Member"),
-        ("etcd://a:02379/day", "Member"),
-        ("etcd://a:+1/day", "Member"),
-        ("etcd://a:65536/day", "Member"),
-        ("etcd://:1/day", "Member"),
-        ("etcd://a b:1/day", "Member"),
-        ("etcd://a:1,/day", "Member"),
-        ("etcd://::1:1/day", "Member"),
-        ("etcd://[::1]/day", "Member"),
-        ("etcd://[::1:1/day", "Member"),
-        ("etcd://x[::1]:1/day", "Member"),
-        ("etcd://[127.0.0.1]:1/day", "Member"),
-        ("etcd://ann@a:1/day", "User"),
-        ("etcd://:p@a:1/day", "User"),
-        ("etcd://ann:@a:1/day", "User"),
-        (
-            "etcd://a:1,a:2,a:3,a:4,a:5,a:6,a:7,a:8,a:9,a:10,a:11,a:12,a:13,a:14,a:15,a:16,a:17/d",
-            "TooMany",
-        ),
-    ] {
-        check(shown(alloc, text)?.as_str() == wanted, text)?;
+    for (text, wanted) in BAD_ONES {
+        check(shown(rt.alloc(), text)?.as_str() == *wanted, text)?;
     }
     Ok(())
 }

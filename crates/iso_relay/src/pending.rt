@@ -112,10 +112,7 @@ fn hear(entries: &mut Vec<Entry>, shard: usize, key: &TxKey, code: u8) -> Decisi
     let heard = gathering.with(shard, code);
     match heard.joint(code) {
         Joint::Waits => {
-            entries[place] = Entry {
-                key: *key,
-                gathering: heard,
-            };
+            entries[place] = with_heard(*key, heard);
             Decision::Hold
         }
         Joint::Same => {

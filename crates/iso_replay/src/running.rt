@@ -11,7 +11,7 @@ use crate::moving::{hear, send};
 use crate::waiting::Waiting;
 use iso_wire::Header;
 use iso_wire::laws::splits_once;
-use std::alloc::Global;
+use std::alloc::{AllocError, Global};
 use std::io::{Read, Write};
 
 /// How many bytes are read at once.
@@ -39,6 +39,13 @@ pub struct Exchanged {
     pub came: Vec<u8>,
     /// How many bytes the host didn't take.
     pub unsent: usize,
+}
+
+/// What is read into, of zeros at first.
+fn new_block(alloc: Global) -> Result<Vec<u8>, AllocError>
+    ensures size { IfOk result (λ block. length block.items ≡ 65536) }
+{
+    vec![in alloc; 0; BLOCK]
 }
 
 /// What an exchange did that ended.
@@ -75,8 +82,7 @@ pub fn exchange_over<I: Read, O: Write, W: Waiting>(
     ensures ends { IfOk result (Ends plan.entry) }
 {
     splits_once();
-    let mut block = Vec::new(alloc);
-    block.resize(BLOCK, 0)?;
+    let mut block = new_block(alloc)?;
     let heard = Heard::new(alloc, plan.header);
     let start = waiting.now()?;
     let mut exchange = Exchange::new(heard, plan.frames, plan.wanted, plan.patience, start);

@@ -27,19 +27,21 @@ returns-then-not-is_asked-clause-left c =
 
 pub returns-in-Waits-clause-decided : goal.returns-in-Waits-clause-decided
 returns-in-Waits-clause-decided c =
-    (was-asked Waits c.args.shard c.args.key.now c.args.code c.args.entries.now.items (set c.args.entries.now.items c.in-Some.place (record { key = c.args.key.now; gathering = c.with-heard.result })) c.in-Some.place c.index.result.now
+    (was-asked Waits c.args.shard c.args.key.now c.args.code c.args.entries.now.items (set c.args.entries.now.items c.in-Some.place c.with_heard.result) c.in-Some.place c.index.result.now
     (sym (rw c.deref.ensures.value at c.in-Some.ensures.place)) c.index.ensures (sym c.is_asked.ensures ∙ c.if-not-is_asked.false)
     (ap (λ h. joint c.args.code h) (sym c.with-heard.ensures) ∙ sym c.joint.ensures.value ∙ c.in-Waits.is)
-    (set-is c.args.key.now c.args.entries.now.items c.in-Some.place c.with-heard.result
+    (ap (λ e. set c.args.entries.now.items c.in-Some.place e) c.with_heard.ensures.made
+    ∙ set-is c.args.key.now c.args.entries.now.items c.in-Some.place c.with-heard.result
     (sym (rw c.deref.ensures.value at c.in-Some.ensures.place))
     ∙ ap (λ h. put (entry c.args.key.now h) c.args.entries.now.items) c.with-heard.ensures)).decided
 
 pub returns-in-Waits-clause-left : goal.returns-in-Waits-clause-left
 returns-in-Waits-clause-left c =
-    (was-asked Waits c.args.shard c.args.key.now c.args.code c.args.entries.now.items (set c.args.entries.now.items c.in-Some.place (record { key = c.args.key.now; gathering = c.with-heard.result })) c.in-Some.place c.index.result.now
+    (was-asked Waits c.args.shard c.args.key.now c.args.code c.args.entries.now.items (set c.args.entries.now.items c.in-Some.place c.with_heard.result) c.in-Some.place c.index.result.now
     (sym (rw c.deref.ensures.value at c.in-Some.ensures.place)) c.index.ensures (sym c.is_asked.ensures ∙ c.if-not-is_asked.false)
     (ap (λ h. joint c.args.code h) (sym c.with-heard.ensures) ∙ sym c.joint.ensures.value ∙ c.in-Waits.is)
-    (set-is c.args.key.now c.args.entries.now.items c.in-Some.place c.with-heard.result
+    (ap (λ e. set c.args.entries.now.items c.in-Some.place e) c.with_heard.ensures.made
+    ∙ set-is c.args.key.now c.args.entries.now.items c.in-Some.place c.with-heard.result
     (sym (rw c.deref.ensures.value at c.in-Some.ensures.place))
     ∙ ap (λ h. put (entry c.args.key.now h) c.args.entries.now.items) c.with-heard.ensures)).left
 
