@@ -63,8 +63,8 @@ settle-requires-clause-few c =
     let few : length es < 999999 = rw c.self.view_is c.requires.few in
     omega (arith, count, few, length-entries 0 i.orders.items i.codes.items i.shown c.self.invariant.0.coded)
 
-pub invariant_of-self : goal.invariant_of-self
-invariant_of-self c =
+pub invariant_of-self-2 : goal.invariant_of-self-2
+invariant_of-self-2 c =
     let i = c.self.inside in
     let os = i.orders.items in
     let cs = i.codes.items in
