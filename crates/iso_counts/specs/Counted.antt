@@ -41,20 +41,24 @@ closed_of l why =
 abbrev pub moved_of : LinkCounts → ℕ → ℕ → LinkCounts
 moved_of l came went = record l { came = more_of l.came came; went = more_of l.went went }
 
+-- what each frame changes, by what came of it; any other event counts no frame
+abbrev pub heard_of : LinkCounts → Event → LinkCounts
+heard_of l (Told.Answered link peer kind key code entry micros) =
+    answered_of l (kind_of_frame kind) code micros
+heard_of l (Told.Replied link peer kind code micros) =
+    answered_of l (kind_of_frame kind) code micros
+heard_of l (Told.Foreign link peer kind key micros) =
+    record (answered_of l (kind_of_frame kind) 12 micros) { foreign = more_of l.foreign 1 }
+heard_of l (Told.Silent link peer kind) =
+    record (framed_of l (kind_of_frame kind)) { silent = more_of l.silent 1 }
+heard_of l (Told.Unreadable link peer kind fault) = framed_of l Kinds.Unreadable
+heard_of l _ = l
+
 -- what each event changes
 abbrev pub counted_of : LinkCounts → Event → LinkCounts
 counted_of l (Told.Connected link peer address) = opened_of l
 counted_of l (Told.Refused link address why) = refused_of l why
 counted_of l (Told.NotAccepted link) = record l { not_accepted = more_of l.not_accepted 1 }
-counted_of l (Told.Answered link peer kind key code entry micros) =
-    answered_of l (kind_of_frame kind) code micros
-counted_of l (Told.Replied link peer kind code micros) =
-    answered_of l (kind_of_frame kind) code micros
-counted_of l (Told.Foreign link peer kind key micros) =
-    record (answered_of l (kind_of_frame kind) 12 micros) { foreign = more_of l.foreign 1 }
-counted_of l (Told.Silent link peer kind) =
-    record (framed_of l (kind_of_frame kind)) { silent = more_of l.silent 1 }
-counted_of l (Told.Unreadable link peer kind fault) = framed_of l Kinds.Unreadable
 counted_of l (Told.Closed link peer why counts) = closed_of l why
 counted_of l (Told.Moved link came went) = moved_of l came went
 counted_of l (Told.Listening link address) = l
@@ -62,3 +66,4 @@ counted_of l (Told.Kept orders micros) = l
 counted_of l (Told.Journal entries limit hundredths) = l
 counted_of l Told.LogFailed = l
 counted_of l (Told.Stopping why) = l
+counted_of l event = heard_of l event

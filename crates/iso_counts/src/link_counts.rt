@@ -1,6 +1,6 @@
 //! What is counted of one link.
 ghost use Rattle.std.specs.Prelude.{◌≡◌};
-ghost use Rattle.iso_counts.specs.Counted.{framed_of, answered_of, refused_of, opened_of, closed_of, moved_of, counted_of};
+ghost use Rattle.iso_counts.specs.Counted.{framed_of, answered_of, refused_of, opened_of, closed_of, moved_of, heard_of, counted_of};
 
 use crate::counting::count_at;
 use crate::histogram::Histogram;
@@ -105,15 +105,11 @@ impl LinkCounts {
         self.went = self.went.saturating_add(went);
     }
 
-    /// Counts an event of the link.
-    pub fn count(&mut self, event: &Event)
-        // An event changes its own counts of the link, and no other.
-        ensures { self.new ≡ counted_of self.old event.now }
+    /// Counts a frame by what came of it. Any other event counts no frame.
+    fn count_heard(&mut self, event: &Event)
+        ensures { self.new ≡ heard_of self.old event.now }
     {
         match *event {
-            Event::Connected { .. } => self.count_opening(),
-            Event::Refused { why, .. } => self.count_refusal(why),
-            Event::NotAccepted { .. } => self.not_accepted = self.not_accepted.saturating_add(1),
             Event::Answered {
                 kind,
                 code,
@@ -135,8 +131,26 @@ impl LinkCounts {
                 self.silent = self.silent.saturating_add(1);
             }
             Event::Unreadable { .. } => self.count_frame(Kind::Unreadable),
+            _ => {}
+        }
+    }
+
+    /// Counts an event of the link.
+    pub fn count(&mut self, event: &Event)
+        // An event changes its own counts of the link, and no other.
+        ensures { self.new ≡ counted_of self.old event.now }
+    {
+        match *event {
+            Event::Connected { .. } => self.count_opening(),
+            Event::Refused { why, .. } => self.count_refusal(why),
+            Event::NotAccepted { .. } => self.not_accepted = self.not_accepted.saturating_add(1),
             Event::Closed { why, .. } => self.count_closing(why),
             Event::Moved { came, went, .. } => self.count_bytes(came, went),
+            Event::Answered { .. }
+            | Event::Replied { .. }
+            | Event::Foreign { .. }
+            | Event::Silent { .. }
+            | Event::Unreadable { .. } => self.count_heard(event),
             Event::Listening { .. }
             | Event::Kept { .. }
             | Event::Journal { .. }

@@ -1,6 +1,6 @@
 -- Piece after piece of one peer, as it is taken and counted.
 use Rattle.std.proofs.Common.{◌≡◌, ◌≢◌, ◌∙◌, ◌++◌, ◌+◌, ◌-◌, ◌<◌, ◌≤◌, ℕ, zero, suc, refl, sym, ap, subst, arith, List, [], ◌∷◌, length, take, drop, append_assoc, append-nil}
-use Rattle.std.specs.Prelude.{Option, Some, None}
+use Rattle.std.specs.Prelude.{Option, Some, None, Bool, true, IfOk, OnErr}
 use Rattle.std.proofs.lemmas.List.{length-drop, take_all}
 use Rattle.std.proofs.Math.Seq.{drop-length, take-add}
 use Rattle.iso_table.specs.Layout.{Layout}
@@ -13,12 +13,16 @@ use Rattle.iso_host.specs.Asking.{asked_of, orders_in, orders_of}
 use Rattle.iso_host.specs.Entering.{books_after_bodies, BodiesGoOn, StaysWithout}
 use Rattle.iso_host.specs.Handling.{books_after_body}
 use Rattle.iso_host.specs.Output.{IsAnswer, IsOutputFrom, IsOutput}
-use Rattle.iso_host.specs.Peers.{TakesPiece, Refuses, one_peer}
+use Rattle.iso_host.specs.Peers.{TakesPiece, Refuses, Unfinished, one_peer}
 use Rattle.iso_host.specs.declared.peer.PeerFault.{PeerFault}
+use Rattle.iso_host.specs.declared.peer.PeerFault.TheVariants as peer
 use Rattle.iso_host.specs.declared.handled.Handled.{Handled}
 use Rattle.iso_peers.specs.Connection.{ConnectionState}
 use Rattle.iso_host.specs.declared.peer.Taken.{Taken}
-use Rattle.iso_peers.specs.Turn.{TakesAll, TakesOf, at_books}
+use Rattle.iso_peers.specs.Turn.{TakesAll, TakesOf, RefusesTurn, BooksChange, at_books, books_change}
+use Rattle.iso_peers.specs.declared.fault.TurnFault.{TurnFault}
+use Rattle.iso_peers.specs.declared.fault.TurnFault.TheVariants.{Log, BadHeader, Memory}
+use Rattle.iso_lines.specs.Hearing.{stopped_at}
 
 -- ---- one body more
 
@@ -174,6 +178,22 @@ all_refused old mid new before between after bytes used fault within so same ref
       waits = so.waits;
       stops = subst (λ (b : Books). Refuses mid.peer b after (drop used bytes) fault) so.books refused;
     })
+
+-- a fault stops it, unless the log had failed
+pub stopped_takes : (failed : Bool) (old mid new : ConnectionState) (before between after : Books) (bytes : List ℕ) (used : ℕ) (why : TurnFault) → used ≤ length bytes
+    → SoFar old.peer.table old.peer.header old mid before between (take used bytes) → new ≡ mid → RefusesTurn failed mid.peer (books_change between after) (drop used bytes) why
+    → IfOk (stopped_at used why) (TakesAll (at_books old before) (at_books new after) bytes)
+stopped_takes failed old mid new before between after bytes used Log within so same refused = tt
+stopped_takes failed old mid new before between after bytes used BadHeader within so same refused =
+    all_refused old mid new before between after bytes used peer.BadHeader within so same refused.1
+stopped_takes failed old mid new before between after bytes used Memory within so same refused =
+    all_refused old mid new before between after bytes used peer.Memory within so same refused.1
+
+-- only a log that had failed fails
+pub stopped_refuses : (failed : Bool) (p : Unfinished) (books : BooksChange) (bytes : List ℕ) (used : ℕ) (why : TurnFault) → RefusesTurn failed p books bytes why → OnErr (stopped_at used why) (failed ≡ true)
+stopped_refuses failed p books bytes used Log refused = refused.0
+stopped_refuses failed p books bytes used BadHeader refused = tt
+stopped_refuses failed p books bytes used Memory refused = tt
 
 -- all bytes are taken
 pub all_taken : (old new : ConnectionState) (before after : Books) (bytes : List ℕ) (used : ℕ) → used ≡ length bytes → new.peer.header ≡ old.peer.header

@@ -7,6 +7,8 @@ use Rattle.iso_issuer.specs.Books.{Books}
 use Rattle.iso_durable.specs.declared.log.LogFailed.{LogFailed}
 use Rattle.iso_host.specs.declared.peer.PeerFault.{PeerFault}
 use Rattle.iso_host.specs.declared.peer.PeerFault.TheVariants as fault
+use Rattle.iso_peers.specs.declared.fault.TurnFault.{TurnFault}
+use Rattle.iso_peers.specs.declared.fault.TurnFault.TheVariants as turn
 use Rattle.iso_peers.specs.declared.turn.Turned.{Turned}
 use Rattle.iso_peers.specs.Connection.{ConnectionState}
 use Rattle.iso_guard.specs.Guarding.{Guard, GuardedState}
@@ -129,6 +131,12 @@ pub record IsHeard (who : Sender) (before after : Keeping) (came : Coming) (byte
   pub whole : after.ended ≡ None → NoFrame who.line.header before.held
       → NoFrame who.line.header after.held
   pub over : (why : Closing) → before.ended ≡ Some why → bodies_of who.key came.arrivals ≡ []
+
+-- how taking bytes ends at a fault, once so many are taken: it fails with the log, or is stopped
+abbrev pub stopped_at : ℕ → TurnFault → Result Turned LogFailed
+stopped_at used turn.Log = Err (record {})
+stopped_at used turn.BadHeader = Ok (record { used = used; stopped = Some fault.BadHeader })
+stopped_at used turn.Memory = Ok (record { used = used; stopped = Some fault.Memory })
 
 -- a peer whose bytes were taken, or weren't, for this reason: whether it ended
 abbrev pub ended_of : Option Closing → Option PeerFault → Option Closing

@@ -186,6 +186,18 @@ impl Counts {
 }
 
 impl Event {
+    /// What is told of a peer that came to a line: it was let in under a number, or wasn't let in.
+    pub(crate) fn of_peer(link: usize, address: SocketAddr, came: Result<u64, Refusal>) -> Event {
+        match came {
+            Ok(peer) => Event::Connected {
+                link,
+                peer,
+                address,
+            },
+            Err(why) => Event::Refused { link, address, why },
+        }
+    }
+
     /// What is told of a frame.
     pub(crate) fn of_frame(told: &Told, micros: u64) -> Event {
         let (link, peer, kind) = (told.link, told.peer, told.kind);
@@ -198,6 +210,19 @@ impl Event {
                 micros,
             },
             Came::Handled(handled) => Event::of_handled(told, handled, micros),
+        }
+    }
+
+    /// What is told of a frame that asked an order, and of its answer.
+    fn of_order(told: &Told, key: TxKey, code: u8, entry: u32, micros: u64) -> Event {
+        Event::Answered {
+            link: told.link,
+            peer: told.peer,
+            kind: told.kind,
+            key,
+            code,
+            entry,
+            micros,
         }
     }
 
@@ -219,15 +244,7 @@ impl Event {
                 code,
                 micros,
             },
-            Handled::Ordered { key, code, seq } => Event::Answered {
-                link,
-                peer,
-                kind,
-                key,
-                code,
-                entry: seq,
-                micros,
-            },
+            Handled::Ordered { key, code, seq } => Event::of_order(told, key, code, seq, micros),
         }
     }
 }

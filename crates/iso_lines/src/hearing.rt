@@ -206,6 +206,17 @@ impl<S: Read + Write + Drop> Peer<'_, S> {
         }
     }
 
+    /// Bytes were read, as many as there was room for or fewer. A short read empties the stream, and what comes later gives an
+    /// event. An end behind the bytes gives none of its own, so a peer whose end came is read until it is seen.
+    fn was_read(&mut self, is_short: bool)
+        ensures bytes { KeepsBytes self.old self.new }
+        ensures ended { self.new.standing.ended ≡ self.old.standing.ended }
+    {
+        if is_short && !self.is_ending {
+            self.may_have_come = false;
+        }
+    }
+
     /// Reads and decides one piece of so many bytes at most, and tells how many it had.
     #[tactic(auto, using(crate::proofs::Heard::none_heard, crate::proofs::Reading::read_heard, crate::proofs::Reading::read_none, crate::proofs::Reading::read_over))]
     pub fn read<L: Log>(
@@ -230,16 +241,10 @@ impl<S: Read + Write + Drop> Peer<'_, S> {
             → IsInStep L.is_ready L.synced L.pending host.new }
     {
         let most = most.min(block.len());
-        let Some(room) = block.get_mut(..most) else {
-            return 0;
-        };
+        let room = &mut block[..most];
         match read_piece(&mut self.stream, room) {
             Piece::Came(count) => {
-                // A short read empties the stream, and what comes later gives an event. An end behind the bytes gives none of its
-                // own, so a peer whose end came is read until it is seen.
-                if count < most && !self.is_ending {
-                    self.may_have_come = false;
-                }
+                self.was_read(count < most);
                 if let Some(bytes) = room.get(..count) {
                     self.hear(host, bytes, now, rooms, told);
                 }

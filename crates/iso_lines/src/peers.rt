@@ -148,20 +148,11 @@ impl<'l, S: Read + Write + Drop> Peers<'l, S> {
             return None;
         }
         let added = self.add(stream, line, link, now.millis());
-        let peer = self.count;
-        let event = match added {
-            Some(_) => Event::Connected {
-                link,
-                peer,
-                address,
-            },
-            None => Event::Refused {
-                link,
-                address,
-                why: Refusal::Memory,
-            },
+        let came = match added {
+            Some(_) => Ok(self.count),
+            None => Err(Refusal::Memory),
         };
-        log.tell(now.since_1970, &event);
+        log.tell(now.since_1970, &Event::of_peer(link, address, came));
         if let Some(key) = added {
             self.notice(key, false);
         }

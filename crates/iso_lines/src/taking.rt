@@ -2,6 +2,7 @@
 ghost use Rattle.std.specs.Prelude.{◌≡◌, true, IfOk, OnErr};
 ghost use Rattle.iso_peers.specs.Host.{IsInStep};
 ghost use Rattle.iso_peers.specs.Turn.{TakesAll, at_books};
+ghost use Rattle.iso_lines.specs.Hearing.{stopped_at};
 ghost use Rattle.iso_lines.specs.Turn.{EntersHeard};
 
 use crate::notes::{Notes, Told};
@@ -10,6 +11,18 @@ use iso_host::laws::one_journal;
 use iso_host::{Link, PeerFault};
 use iso_peers::{Connection, DurableHost, TurnFault, Turned};
 use iso_wire::laws::splits_once;
+
+/// How taking a peer's bytes ends at a fault, once so many are taken.
+fn stopped_at(used: usize, fault: TurnFault) -> Result<Turned, LogFailed>
+    ensures { result ≡ stopped_at used fault }
+{
+    let stopped = match fault {
+        TurnFault::Log => return Err(LogFailed),
+        TurnFault::BadHeader => Some(PeerFault::BadHeader),
+        TurnFault::Memory => Some(PeerFault::Memory),
+    };
+    Ok(Turned { used, stopped })
+}
 
 /// Takes all bytes of a peer, as `DurableHost::take_all` does, and notes what came of each frame.
 pub(crate) fn take_noted<L: Log>(
@@ -41,15 +54,7 @@ pub(crate) fn take_noted<L: Log>(
     let mut used = 0;
     'pieces: loop {
         match host.take(connection, &bytes[used..]) {
-            Err(TurnFault::Log) => return Err(LogFailed),
-            Err(TurnFault::BadHeader) => {
-                let stopped = Some(PeerFault::BadHeader);
-                return Ok(Turned { used, stopped });
-            }
-            Err(TurnFault::Memory) => {
-                let stopped = Some(PeerFault::Memory);
-                return Ok(Turned { used, stopped });
-            }
+            Err(fault) => return stopped_at(used, fault),
             Ok(taken) => {
                 notes.note_taken(agreed, &bytes[used..], &taken, told);
                 used += taken.used;

@@ -73,6 +73,11 @@ fn reason(status: u16) -> &'static str {
     }
 }
 
+/// One field of a head.
+fn field<'a>(name: &'a [u8], value: &'a [u8]) -> Header<'a> {
+    Header { name, value }
+}
+
 /// Adds the head of an answer that tells so many bytes.
 fn write_head(
     server: &mut Server,
@@ -82,22 +87,10 @@ fn write_head(
     out: &mut Vec<u8>,
 ) -> Result<(), WriteError> {
     let fields = [
-        Header {
-            name: b"content-type",
-            value: content_type(asked),
-        },
-        Header {
-            name: b"cache-control",
-            value: b"no-store",
-        },
-        Header {
-            name: b"connection",
-            value: b"close",
-        },
-        Header {
-            name: b"allow",
-            value: b"GET, HEAD",
-        },
+        field(b"content-type", content_type(asked)),
+        field(b"cache-control", b"no-store"),
+        field(b"connection", b"close"),
+        field(b"allow", b"GET, HEAD"),
     ];
     // only who asks for something that isn't done is told what is
     let count = match asked {

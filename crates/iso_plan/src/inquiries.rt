@@ -35,6 +35,18 @@ pub struct Inquiries {
 }
 
 impl Asked {
+    /// One that wasn't asked for yet.
+    fn new(key: TxKey, buyer: Buyer) -> Asked {
+        Asked {
+            key,
+            buyer,
+            times: 0,
+            until: 0,
+            is_done: false,
+            balance: None,
+        }
+    }
+
     /// The order that asks, an inquiry.
     fn order(&self) -> Option<Order> {
         let money = Money {
@@ -81,14 +93,7 @@ impl Inquiries {
                 acquirer,
             };
             self.waiting.push_back(place)?;
-            self.asked.push(Asked {
-                key,
-                buyer: *buyer,
-                times: 0,
-                until: 0,
-                is_done: false,
-                balance: None,
-            })?;
+            self.asked.push(Asked::new(key, *buyer))?;
         }
         Ok(())
     }

@@ -154,29 +154,23 @@ impl Plan<'_> {
         ensures { result ≡ plan_fault self.now }
     {
         if self.acquirer > MOST_ACQUIRER {
-            return Some(PlanFault::Acquirer);
+            Some(PlanFault::Acquirer)
+        } else if self.peers == 0 {
+            Some(PlanFault::Peers)
+        } else if self.most_open == 0 {
+            Some(PlanFault::Open)
+        } else if self.rate == Some(0) {
+            Some(PlanFault::Rate)
+        } else if self.least == 0 || self.least > self.most || self.most > MOST_AMOUNT {
+            Some(PlanFault::Amounts)
+        } else if !self.mix.is_fair() {
+            Some(PlanFault::Mix)
+        } else if !are_faults(&self.faults) {
+            Some(PlanFault::Faults)
+        } else if !are_buyers(self.buyers) {
+            Some(PlanFault::Buyers)
+        } else {
+            None
         }
-        if self.peers == 0 {
-            return Some(PlanFault::Peers);
-        }
-        if self.most_open == 0 {
-            return Some(PlanFault::Open);
-        }
-        if self.rate == Some(0) {
-            return Some(PlanFault::Rate);
-        }
-        if self.least == 0 || self.least > self.most || self.most > MOST_AMOUNT {
-            return Some(PlanFault::Amounts);
-        }
-        if !self.mix.is_fair() {
-            return Some(PlanFault::Mix);
-        }
-        if !are_faults(&self.faults) {
-            return Some(PlanFault::Faults);
-        }
-        if !are_buyers(self.buyers) {
-            return Some(PlanFault::Buyers);
-        }
-        None
     }
 }

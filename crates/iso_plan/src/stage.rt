@@ -1,6 +1,6 @@
 //! How far a run got.
 ghost use Rattle.std.specs.Prelude.{◌≡◌};
-ghost use Rattle.iso_plan.specs.Stage.{next_stage};
+ghost use Rattle.iso_plan.specs.Stage.{after_buying, next_stage};
 
 /// What a run does.
 #[derive(Clone, Copy, Debug, PartialEq, Eq)]
@@ -28,6 +28,18 @@ pub struct Standing {
     pub are_done: bool,
 }
 
+/// What a run does once it buys no more and each transaction is closed.
+fn after_buying(stands: &Standing) -> Stage
+    // It asks for balances, if it checks.
+    ensures { result ≡ after_buying stands.now }
+{
+    if stands.checks {
+        Stage::Asking
+    } else {
+        Stage::Over
+    }
+}
+
 /// What a run does next.
 pub fn next_stage(stage: Stage, stands: &Standing) -> Stage
     // A run buys until it closes and each transaction is closed. Before, and after if it checks, it
@@ -43,12 +55,10 @@ pub fn next_stage(stage: Stage, stands: &Standing) -> Stage
             }
         }
         Stage::Buying => {
-            if !(stands.is_closing && stands.is_closed) {
-                Stage::Buying
-            } else if stands.checks {
-                Stage::Asking
+            if stands.is_closing && stands.is_closed {
+                after_buying(stands)
             } else {
-                Stage::Over
+                Stage::Buying
             }
         }
         Stage::Asking => {

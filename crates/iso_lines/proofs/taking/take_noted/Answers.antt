@@ -1,12 +1,12 @@
-use Rattle.std.proofs.Common.{◌≡◌, ◌∙◌, ◌+◌, ◌-◌, arith, length, take, drop, refl, subst, List, ℕ}
+use Rattle.std.proofs.Common.{◌≡◌, ◌∙◌, ◌+◌, ◌-◌, arith, length, take, drop, refl, sym, subst, List, ℕ}
 use Rattle.std.proofs.lemmas.List.{length-drop, take_all}
 use Rattle.iso_wire.specs.declared.header.Header.{Header}
 use Rattle.iso_wire.specs.Framing.{NoFrame}
 use Rattle.iso_issuer.specs.Books.{Books}
 use Rattle.iso_host.specs.Entering.{StaysWithout}
-use Rattle.iso_peers.specs.Turn.{TakesOf, at_books}
+use Rattle.iso_peers.specs.Turn.{TakesOf, RefusesTurn, at_books, books_change}
 use Rattle.iso_lines.proofs.Heard.{more_heard, so_heard, take_heard}
-use Rattle.iso_lines.proofs.Pieces.{at_first, next_taken, no_frame_after, all_taken}
+use Rattle.iso_lines.proofs.Pieces.{at_first, next_taken, no_frame_after, stopped_takes, stopped_refuses, all_taken}
 use Rattle.iso_lines.proofs.taking.take_noted.Goals as goal
 
 pub pieces-init : goal.pieces-init
@@ -58,22 +58,25 @@ returns-then-used-bytes-clause-took g c =
     all_taken c.args.connection.now new.connection c.args.host.now.host new.self.host bytes (c.pieces.used + c.in-Ok.taken.used) c.if-used-bytes.true
     (c.take.ensures.header ∙ so.header) so_far (subst (λ (h : Header). NoFrame h new.connection.peer.held) so.header none)
 
-pub returns-in-Err-Log-clause-heard : goal.returns-in-Err-Log-clause-heard
-returns-in-Err-Log-clause-heard g c =
-    more_heard c.args.host.now.host c.pieces.host.host c.take.new.self.host
-    (so_heard _ _ c.args.connection.now c.pieces.connection c.args.host.now.host c.pieces.host.host _ c.one_journal.ensures.more
-    (subst (λ (b : Books). StaysWithout b) c.issuer.ensures c.one_journal.ensures.none) c.pieces.invariant.so_far)
-    (take_heard _ c.pieces.connection c.take.new.connection c.pieces.host.host c.take.new.self.host _ c.take.result c.take.ensures.took c.take.ensures.refused)
+pub returns-in-Err-clause-took : goal.returns-in-Err-clause-took
+returns-in-Err-clause-took g c =
+    let so = c.pieces.invariant in
+    let bytes = c.args.bytes.now in
+    let old = c.pieces.connection in
+    let new = c.take.new in
+    let rest : take (length bytes - c.pieces.used) (drop c.pieces.used bytes) ≡ drop c.pieces.used bytes =
+    take_all (length bytes - c.pieces.used) (drop c.pieces.used bytes) (omega (arith, length-drop c.pieces.used bytes)) in
+    let refused = subst (λ (l : List ℕ). RefusesTurn c.pieces.host.has_failed old.peer (books_change c.pieces.host.host new.self.host) l c.in-Err.fault) rest c.in-Err.ensures.refused in
+    rw c.stopped_at.ensures (stopped_takes c.pieces.host.has_failed c.args.connection.now old new.connection c.args.host.now.host c.pieces.host.host new.self.host bytes c.pieces.used c.in-Err.fault
+    so.within so.so_far c.in-Err.ensures.unchanged refused)
 
-pub returns-in-Err-BadHeader-clause-heard : goal.returns-in-Err-BadHeader-clause-heard
-returns-in-Err-BadHeader-clause-heard g c =
-    more_heard c.args.host.now.host c.pieces.host.host c.take.new.self.host
-    (so_heard _ _ c.args.connection.now c.pieces.connection c.args.host.now.host c.pieces.host.host _ c.one_journal.ensures.more
-    (subst (λ (b : Books). StaysWithout b) c.issuer.ensures c.one_journal.ensures.none) c.pieces.invariant.so_far)
-    (take_heard _ c.pieces.connection c.take.new.connection c.pieces.host.host c.take.new.self.host _ c.take.result c.take.ensures.took c.take.ensures.refused)
+pub returns-in-Err-clause-refused : goal.returns-in-Err-clause-refused
+returns-in-Err-clause-refused g c =
+    rw (c.stopped_at.ensures, sym c.pieces.invariant.failed) (stopped_refuses c.pieces.host.has_failed c.pieces.connection.peer (books_change c.pieces.host.host c.take.new.self.host) _ c.pieces.used c.in-Err.fault
+    c.in-Err.ensures.refused)
 
-pub returns-in-Err-Memory-clause-heard : goal.returns-in-Err-Memory-clause-heard
-returns-in-Err-Memory-clause-heard g c =
+pub returns-in-Err-clause-heard : goal.returns-in-Err-clause-heard
+returns-in-Err-clause-heard g c =
     more_heard c.args.host.now.host c.pieces.host.host c.take.new.self.host
     (so_heard _ _ c.args.connection.now c.pieces.connection c.args.host.now.host c.pieces.host.host _ c.one_journal.ensures.more
     (subst (λ (b : Books). StaysWithout b) c.issuer.ensures c.one_journal.ensures.none) c.pieces.invariant.so_far)
