@@ -133,6 +133,20 @@ impl<D: Dial + Drop> EtcdStore<D> {
         Ok(self.ahead.pop_front())
     }
 
+    /// A batch was sent, and it has heard that this one stands at the next place.
+    fn hear_own(&mut self, place: u64, own: &Vec<u8>) -> Asked
+        requires { place ≡ self.old.count + 1 }
+        ensures result { result ≡ Asked.Stands }
+        ensures heard { heard self.new.heard.items
+            ≡ heard self.old.heard.items ++ own.now.items ∷ [] }
+        ensures sent { heard self.new.sent.items
+            ≡ heard self.old.sent.items ++ own.now.items ∷ [] }
+    {
+        self.sent = self.sent.and(own, &());
+        self.hear(place, own);
+        Asked::Stands
+    }
+
     /// A batch was sent, and it isn't known what came of it.
     fn doubt(&mut self, batch: &Vec<u8>, doubt: Doubt) -> Asked
         ensures result { result ≡ Asked.Unknown }
@@ -157,16 +171,8 @@ impl<D: Dial + Drop> Store for EtcdStore<D> {
         };
         self.ahead.clear();
         match self.cluster.append_once(next, bytes) {
-            Append::Appended => {
-                self.sent = self.sent.and(&batch, &());
-                self.hear(place, &batch);
-                Asked::Stands
-            }
-            Append::Taken(other) if are_same(&other, bytes) => {
-                self.sent = self.sent.and(&batch, &());
-                self.hear(place, &batch);
-                Asked::Stands
-            }
+            Append::Appended => self.hear_own(place, &batch),
+            Append::Taken(other) if are_same(&other, bytes) => self.hear_own(place, &batch),
             Append::Taken(other) => {
                 self.sent = self.sent.and(&batch, &());
                 self.hear(place, &other);

@@ -44,25 +44,14 @@ pub fn perform_table<S: Source, I: Read, O: Write>(
     ensures range { IfOk result (λ status. status ≤ 1) }
 {
     match job {
-        TableJob::Check(table) => {
-            check(alloc, *table, source, input, output)?;
-            Ok(0)
-        }
-        TableJob::Show(table, names) => {
-            show(alloc, *table, *names, source, input, output)?;
-            Ok(0)
-        }
-        TableJob::List => {
-            list(alloc, output)?;
-            Ok(0)
-        }
-        TableJob::New(words) => {
-            make(alloc, words, source, input, output)?;
-            Ok(0)
-        }
+        TableJob::Check(table) => check(alloc, *table, source, input, output)?,
+        TableJob::Show(table, names) => show(alloc, *table, *names, source, input, output)?,
+        TableJob::List => list(alloc, output)?,
+        TableJob::New(words) => make(alloc, words, source, input, output)?,
         TableJob::Diff(first, second) => {
             let differ = diff(alloc, *first, *second, source, input, output)?;
-            Ok(status_of(differ))
+            return Ok(status_of(differ));
         }
     }
+    Ok(0)
 }
