@@ -58,6 +58,15 @@ impl Counts {
             add_one(&mut self.dropped);
         }
     }
+
+    /// One more answer, that was passed on or not.
+    fn add_answer(&mut self, passed: bool) {
+        if passed {
+            add_one(&mut self.answers);
+        } else {
+            add_one(&mut self.held);
+        }
+    }
 }
 
 /// A place for the connection to each shard.
@@ -107,6 +116,30 @@ fn put_all<S: Read + Write + Drop, D: Dial<S>>(
     Ok(all)
 }
 
+/// Puts a frame behind what waits where it is sent to: whether there is a connection to each of those shards.
+fn put_where<S: Read + Write + Drop, D: Dial<S>>(
+    alloc: Global,
+    front: &Front<'_>,
+    legs: &mut [Leg<S>],
+    sent: (usize, Sending),
+    now: u64,
+    dial: &mut D,
+    frame: &[u8],
+) -> Result<bool, AllocError> {
+    let (key, sending) = sent;
+    match sending {
+        Sending::Nowhere => Ok(false),
+        Sending::One(shard) => put(alloc, front, legs, (key, shard), now, dial, frame),
+        Sending::All => put_all(alloc, front, legs, key, now, dial, frame),
+    }
+}
+
+/// The connection to a shard, where answers may have come of it.
+fn answering<S>(legs: &mut [Leg<S>], shard: usize) -> Option<&mut Way<S>> {
+    let way = legs.get_mut(shard)?.way.as_mut()?;
+    if way.has_frames { Some(way) } else { None }
+}
+
 impl<S: Read + Write + Drop> Acquirer<S> {
     /// An acquirer that was let in.
     pub fn new(
@@ -148,6 +181,16 @@ impl<S: Read + Write + Drop> Acquirer<S> {
         false
     }
 
+    /// Whether frames may have come of it that are sent on now.
+    fn may_send(&self, bounds: &Bounds) -> bool {
+        self.own.has_frames && !self.is_full(bounds)
+    }
+
+    /// Whether there is room for its answers.
+    fn has_room(&self, bounds: &Bounds) -> bool {
+        !bounds.is_full(self.own.waiting.len())
+    }
+
     /// Sends the frame at the front of what came on: whether another may stand behind it.
     fn send_frame<D: Dial<S>>(
         &mut self,
@@ -158,9 +201,6 @@ impl<S: Read + Write + Drop> Acquirer<S> {
         now: u64,
         dial: &mut D,
     ) -> Result<bool, NoMemory> {
-        if !self.own.has_frames || self.is_full(&front.bounds) {
-            return Ok(false);
-        }
         let came = self.own.came.as_slice();
         let (body, used) = match unframe(front.header, came) {
             Ok(Framed::Got { body, used }) => (body, used),
@@ -171,18 +211,10 @@ impl<S: Read + Write + Drop> Acquirer<S> {
             }
         };
         let frame = &came[..used];
-        let legs = &mut self.legs;
-        let went = match send(
-            &mut self.pending,
-            front.shards,
-            front.table,
-            body,
-            &mut rooms.message,
-        )? {
-            Sending::Nowhere => false,
-            Sending::One(shard) => put(alloc, front, legs, (key, shard), now, dial, frame)?,
-            Sending::All => put_all(alloc, front, legs, key, now, dial, frame)?,
-        };
+        let room = &mut rooms.message;
+        let sending = send(&mut self.pending, front.shards, front.table, body, room)?;
+        let sent = (key, sending);
+        let went = put_where(alloc, front, &mut self.legs, sent, now, dial, frame)?;
         self.own.came.advance(used);
         self.counts.add_frame(went);
         Ok(true)
@@ -199,6 +231,9 @@ impl<S: Read + Write + Drop> Acquirer<S> {
         dial: &mut D,
     ) -> Result<(), NoMemory> {
         for _ in 0..FRAMES {
+            if !self.may_send(&front.bounds) {
+                return Ok(());
+            }
             if !self.send_frame(alloc, front, rooms, key, now, dial)? {
                 return Ok(());
             }
@@ -229,15 +264,9 @@ impl<S: Read + Write + Drop> Acquirer<S> {
         rooms: &mut Rooms,
         shard: usize,
     ) -> Result<bool, NoMemory> {
-        let Some(leg) = self.legs.get_mut(shard) else {
+        let Some(way) = answering(&mut self.legs, shard) else {
             return Ok(false);
         };
-        let Some(way) = &mut leg.way else {
-            return Ok(false);
-        };
-        if !way.has_frames || front.bounds.is_full(self.own.waiting.len()) {
-            return Ok(false);
-        }
         let came = way.came.as_slice();
         let (body, used) = match unframe(front.header, came) {
             Ok(Framed::Got { body, used }) => (body, used),
@@ -247,12 +276,12 @@ impl<S: Read + Write + Drop> Acquirer<S> {
                 return Ok(false);
             }
         };
-        if take(&mut self.pending, shard, front.table, body, &mut rooms.text)? == Decision::PassOn {
+        let decision = take(&mut self.pending, shard, front.table, body, &mut rooms.text)?;
+        let passes = decision == Decision::PassOn;
+        if passes {
             self.own.waiting.extend_from_slice(&came[..used])?;
-            add_one(&mut self.counts.answers);
-        } else {
-            add_one(&mut self.counts.held);
         }
+        self.counts.add_answer(passes);
         way.came.advance(used);
         Ok(true)
     }
@@ -265,7 +294,7 @@ impl<S: Read + Write + Drop> Acquirer<S> {
         shard: usize,
     ) -> Result<(), NoMemory> {
         for _ in 0..FRAMES {
-            if !self.pass_answer(front, rooms, shard)? {
+            if !self.has_room(&front.bounds) || !self.pass_answer(front, rooms, shard)? {
                 return Ok(());
             }
         }
@@ -274,11 +303,11 @@ impl<S: Read + Write + Drop> Acquirer<S> {
 
     /// Reads of a shard, where the acquirer has room for its answers.
     fn read_shard(&mut self, front: &Front<'_>, shard: usize, now: u64) -> Result<(), AllocError> {
-        let is_full = front.bounds.is_full(self.own.waiting.len());
+        let has_room = self.has_room(&front.bounds);
         if let Some(leg) = self.legs.get_mut(shard)
             && let Some(way) = &mut leg.way
             && way.may_read()
-            && !is_full
+            && has_room
             && way.read()?
         {
             self.last = now;
@@ -328,7 +357,7 @@ impl<S: Read + Write + Drop> Acquirer<S> {
         if self.own.may_write() || (takes && (self.own.may_read() || self.own.has_frames)) {
             return true;
         }
-        let has_room = !bounds.is_full(self.own.waiting.len());
+        let has_room = self.has_room(bounds);
         for leg in &self.legs {
             if leg.goes_on(has_room) {
                 return true;
