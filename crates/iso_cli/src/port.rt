@@ -1,6 +1,7 @@
 //! A host on a port of this machine.
 
-ghost use Rattle.std.specs.Prelude.{◌≡◌, ◌≤◌, map};
+ghost use Rattle.std.specs.Prelude.{◌≡◌, ◌≢◌, ◌≤◌, map};
+ghost use Rattle.iso_table.specs.HostReady.{IsHostReady};
 ghost use Rattle.iso_cli.specs.Listening.{AsksNoServe};
 
 use crate::connections::serve_connections;
@@ -10,6 +11,40 @@ use crate::stop::{Stop, tell};
 use iso_host::Outlet;
 use std::alloc::Global;
 use std::net::{Ipv4Addr, Net, TcpListener, TcpStream};
+
+/// Serves the connections that a host is for, on its port of 127.0.0.1, and gives the status.
+fn serve_host<N: Net<Listener = TcpListener, Stream = TcpStream>, O: Outlet, F: Outlet>(
+    alloc: Global,
+    net: &N,
+    host: Serving,
+    output: &mut O,
+    faults: &mut F,
+) -> u8
+    requires { IsHostReady host.table }
+    ensures status { result ≤ 3 }
+    ensures words { result ≢ 2 }
+{
+    let Serving {
+        table,
+        header,
+        mut issuer,
+        port,
+        count,
+    } = host;
+    match TcpListener::bind(net, (Ipv4Addr::LOCALHOST, port)) {
+        Ok(listener) => serve_connections(
+            alloc,
+            &listener,
+            &table,
+            header,
+            &mut issuer,
+            count,
+            output,
+            faults,
+        ),
+        Err(_) => tell(alloc, faults, Stop::Read),
+    }
+}
 
 /// Serves the connections that the words ask for, on their port of 127.0.0.1, and gives the status. A port that can't
 /// be bound is a device that can't be read.
@@ -24,27 +59,8 @@ pub fn serve_port<
     // With status 2, the words name no host.
     ensures words { result ≡ 2 → AsksNoServe (map (λ w. w.now) words.now) }
 {
-    let Serving {
-        table,
-        header,
-        mut issuer,
-        port,
-        count,
-    } = match prepare(alloc, words, source, faults) {
-        Ok(host) => host,
-        Err(status) => return status,
-    };
-    match TcpListener::bind(net, (Ipv4Addr::LOCALHOST, port)) {
-        Ok(listener) => serve_connections(
-            alloc,
-            &listener,
-            &table,
-            header,
-            &mut issuer,
-            count,
-            output,
-            faults,
-        ),
-        Err(_) => tell(alloc, faults, Stop::Read),
+    match prepare(alloc, words, source, faults) {
+        Ok(host) => serve_host(alloc, net, host, output, faults),
+        Err(status) => status,
     }
 }
