@@ -316,32 +316,31 @@ fn number_of(numbered: &Numbered) -> u8 {
     }
 }
 
+/// The fault of a bitmap at 8.
+fn bitmap_fault(cause: BitmapCause) -> BitmapFault {
+    BitmapFault { at: 8, cause }
+}
+
+/// The fault of element 2 at 20.
+fn element_fault(cause: UnpackCause) -> UnpackFault {
+    UnpackFault {
+        at: 20,
+        element: 2,
+        cause,
+    }
+}
+
 /// Whether that is shown of the fault.
 fn is_told(alloc: Global, numbered: &Numbered, text: &str) -> bool {
     match numbered {
         Field(fault) => is_shown(alloc, fault, text),
         Row(fault) => is_shown(alloc, fault, text),
-        Map(cause) => is_shown(
-            alloc,
-            &BitmapFault {
-                at: 8,
-                cause: *cause,
-            },
-            text,
-        ),
+        Map(cause) => is_shown(alloc, &bitmap_fault(*cause), text),
         Table(fault) => is_shown(alloc, fault, text),
         Host(fault) => is_shown(alloc, fault, text),
         Set(fault) => is_shown(alloc, fault, text),
         Pack(fault) => is_shown(alloc, fault, text),
-        Unpack(cause) => is_shown(
-            alloc,
-            &UnpackFault {
-                at: 20,
-                element: 2,
-                cause: *cause,
-            },
-            text,
-        ),
+        Unpack(cause) => is_shown(alloc, &element_fault(*cause), text),
         Frame(fault) => is_shown(alloc, fault, text),
     }
 }

@@ -116,31 +116,16 @@ fn check_case(alloc: Global, table: &Table, case: &Case) -> Result<(), Fail> {
     let Ok((message, _)) = unpack(alloc, table, case.bytes) else {
         return check_of(false, case.name, "its bytes");
     };
-    check_of(
-        is_so(json_of(alloc, table, &message, true), case.json),
-        case.name,
-        "in clear",
-    )?;
-    check_of(
-        is_so(json_of(alloc, table, &message, false), case.masked),
-        case.name,
-        "masked",
-    )?;
-    check_of(
-        is_so(lines_of(alloc, table, &message), case.lines),
-        case.name,
-        "as lines",
-    )?;
-    check_of(
-        is_encoded(alloc, table, case.json, case.bytes),
-        case.name,
-        "from JSON",
-    )?;
-    check_of(
-        is_encoded(alloc, table, case.lines, case.bytes),
-        case.name,
-        "from lines",
-    )
+    let is_clear = is_so(json_of(alloc, table, &message, true), case.json);
+    check_of(is_clear, case.name, "in clear")?;
+    let is_masked = is_so(json_of(alloc, table, &message, false), case.masked);
+    check_of(is_masked, case.name, "masked")?;
+    let is_lines = is_so(lines_of(alloc, table, &message), case.lines);
+    check_of(is_lines, case.name, "as lines")?;
+    let is_read = is_encoded(alloc, table, case.json, case.bytes);
+    check_of(is_read, case.name, "from JSON")?;
+    let is_read = is_encoded(alloc, table, case.lines, case.bytes);
+    check_of(is_read, case.name, "from lines")
 }
 
 /// The table of the 1987 edition in ASCII.

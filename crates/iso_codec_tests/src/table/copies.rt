@@ -83,35 +83,17 @@ fn equal_tables_say_the_same(rt: HostRuntime) -> Result<(), Fail> {
     let alloc = rt.alloc();
     let table = small(alloc, 1, BitmapCoding::Raw, ROWS)?;
     check(table.clone()? == table, "a copy")?;
-    check(
-        small(
-            alloc,
-            1,
-            BitmapCoding::Raw,
-            &[ROWS[3], ROWS[2], ROWS[1], ROWS[0]],
-        )? == table,
-        "another order",
-    )?;
-    check(
-        small(alloc, 2, BitmapCoding::Raw, ROWS)? != table,
-        "another version",
-    )?;
-    check(
-        small(alloc, 1, BitmapCoding::Hex, ROWS)? != table,
-        "other bitmaps",
-    )?;
-    check(
-        small(alloc, 1, BitmapCoding::Raw, &ROWS[..3])? != table,
-        "a row less",
-    )?;
+    let turned = [ROWS[3], ROWS[2], ROWS[1], ROWS[0]];
+    let other = small(alloc, 1, BitmapCoding::Raw, &turned)?;
+    check(other == table, "another order")?;
+    let other = small(alloc, 2, BitmapCoding::Raw, ROWS)?;
+    check(other != table, "another version")?;
+    let other = small(alloc, 1, BitmapCoding::Hex, ROWS)?;
+    check(other != table, "other bitmaps")?;
+    let other = small(alloc, 1, BitmapCoding::Raw, &ROWS[..3])?;
+    check(other != table, "a row less")?;
     let longer = (2, number!(Coding::Ascii, LL, 20));
-    check(
-        small(
-            alloc,
-            1,
-            BitmapCoding::Raw,
-            &[ROWS[0], longer, ROWS[2], ROWS[3]],
-        )? != table,
-        "another row",
-    )
+    let changed = [ROWS[0], longer, ROWS[2], ROWS[3]];
+    let other = small(alloc, 1, BitmapCoding::Raw, &changed)?;
+    check(other != table, "another row")
 }

@@ -121,15 +121,9 @@ fn serve_day(
         piece,
         calls: reads,
     };
+    let mut reader = Std::new(&mut few);
     let mut writer = Writer::new(alloc, piece, fails_at);
-    let ended = end_of(
-        alloc,
-        table,
-        issuer,
-        &mut Std::new(&mut few),
-        &mut writer,
-        turns,
-    );
+    let ended = end_of(alloc, table, issuer, &mut reader, &mut writer, turns);
     Run {
         ended,
         reads: reads.saturating_sub(few.calls),
