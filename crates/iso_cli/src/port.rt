@@ -31,19 +31,19 @@ fn serve_host<N: Net<Listener = TcpListener, Stream = TcpStream>, O: Outlet, F: 
         port,
         count,
     } = host;
-    match TcpListener::bind(net, (Ipv4Addr::LOCALHOST, port)) {
-        Ok(listener) => serve_connections(
-            alloc,
-            &listener,
-            &table,
-            header,
-            &mut issuer,
-            count,
-            output,
-            faults,
-        ),
-        Err(_) => tell(alloc, faults, Stop::Read),
-    }
+    let Ok(listener) = TcpListener::bind(net, (Ipv4Addr::LOCALHOST, host.port)) else {
+        return tell(alloc, faults, Stop::Read);
+    };
+    serve_connections(
+        alloc,
+        &listener,
+        &host.table,
+        host.header,
+        &mut host.issuer,
+        host.count,
+        output,
+        faults,
+    )
 }
 
 /// Serves the connections that the words ask for, on their port of 127.0.0.1, and gives the status. A port that can't
