@@ -16,21 +16,14 @@ use std::net::{Ipv4Addr, Net, TcpListener, TcpStream};
 fn serve_host<N: Net<Listener = TcpListener, Stream = TcpStream>, O: Outlet, F: Outlet>(
     alloc: Global,
     net: &N,
-    host: Serving,
+    host: &mut Serving,
     output: &mut O,
     faults: &mut F,
 ) -> u8
-    requires { IsHostReady host.table }
+    requires { IsHostReady host.old.table }
     ensures status { result ≤ 3 }
     ensures words { result ≢ 2 }
 {
-    let Serving {
-        table,
-        header,
-        mut issuer,
-        port,
-        count,
-    } = host;
     let Ok(listener) = TcpListener::bind(net, (Ipv4Addr::LOCALHOST, host.port)) else {
         return tell(alloc, faults, Stop::Read);
     };
@@ -60,7 +53,7 @@ pub fn serve_port<
     ensures words { result ≡ 2 → AsksNoServe (map (λ w. w.now) words.now) }
 {
     match prepare(alloc, words, source, faults) {
-        Ok(host) => serve_host(alloc, net, host, output, faults),
+        Ok(mut host) => serve_host(alloc, net, &mut host, output, faults),
         Err(status) => status,
     }
 }
