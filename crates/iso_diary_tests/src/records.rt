@@ -45,29 +45,27 @@ fn is_written(place: u64, note: Note, front: &[u8; 64], back: &[u8; 64]) -> bool
 #[test]
 fn each_kind_of_note_is_a_record(rt: HostRuntime) -> Result<(), Fail> {
     let order = payment().ok_or("no payment")?;
-    assert!(rt;
-        is_written(
+    for (place, note, front, back) in [
+        (
             1,
             Note::Begun(order),
             b"0200000001112612000000000000007D                               1",
-            b"64111111111111111   000000003000840B00000000000000000001       \n"
-        )
-    );
-    assert!(rt;
-        is_written(
+            b"64111111111111111   000000003000840B00000000000000000001       \n",
+        ),
+        (
             2,
             Note::TimedOut(1),
             b"0000000001                                                      ",
-            b"                                   T00000000000000000002       \n"
-        )
-    );
-    assert!(rt;
-        is_written(
+            b"                                   T00000000000000000002       \n",
+        ),
+        (
             3,
             Note::Told(KEY, 51),
             b"0020000000000010000000000112612000000000000000000000007051      ",
-            b"                                   A00000000000000000003       \n"
-        )
-    );
+            b"                                   A00000000000000000003       \n",
+        ),
+    ] {
+        assert!(rt; is_written(place, note, front, back));
+    }
     Ok(())
 }

@@ -254,6 +254,25 @@ struct Day<'f> {
 }
 
 impl<'f> Day<'f> {
+    /// A front of one acquirer, before anything is asked; none where the acquirer isn't let in.
+    fn new(alloc: Global, front: Front<'f>) -> Option<Day<'f>> {
+        let mut acquirers = Acquirers::new(alloc, front, io::sink());
+        let key = acquirers.let_in(Line::new(alloc), 0)?;
+        let dials = Dials {
+            alloc,
+            count: 0,
+            refuses: false,
+        };
+        Some(Day {
+            acquirers,
+            dials,
+            key,
+            now: 0,
+            got: 0,
+            asked: [0, 0],
+        })
+    }
+
     /// Some turns at this moment.
     fn turn(&mut self) {
         for _ in 0..4 {
@@ -366,22 +385,8 @@ fn fails_at(alloc: Global, row: &Row) -> Result<usize, AllocError> {
         header: Header::Ascii4,
         bounds: BOUNDS,
     };
-    let mut acquirers = Acquirers::new(alloc, front, io::sink());
-    let Some(key) = acquirers.let_in(Line::new(alloc), 0) else {
+    let Some(mut day) = Day::new(alloc, front) else {
         return Ok(1_001);
-    };
-    let dials = Dials {
-        alloc,
-        count: 0,
-        refuses: false,
-    };
-    let mut day = Day {
-        acquirers,
-        dials,
-        key,
-        now: 0,
-        got: 0,
-        asked: [0, 0],
     };
     for (place, step) in row.steps.iter().enumerate() {
         if !day.goes(step)? {

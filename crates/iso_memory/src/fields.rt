@@ -142,29 +142,21 @@ pub fn rows(alloc: Global) -> [(&'static str, Ended); 10] {
     let digits = b"378282246310005";
     let account = b"\x15\x03\x78\x28\x22\x46\x31\x00\x05";
     let behind = b"\x07\x15\x03\x78\x28\x22\x46\x31\x00\x05";
+    let value = b"\x07378282246310005";
+    let padded = b"\x07000012";
+    let track = b"\x07\x03\x04\xd1";
+    let part = &track[1..];
     [
         ("encode_field", encodes(alloc, &ACCOUNT, digits, behind)),
-        (
-            "encode_field",
-            encodes(alloc, &PADDED, b"12", b"\x07000012"),
-        ),
-        (
-            "encode_field",
-            encodes(alloc, &TRACK, b"4=1", b"\x07\x03\x04\xd1"),
-        ),
+        ("encode_field", encodes(alloc, &PADDED, b"12", padded)),
+        ("encode_field", encodes(alloc, &TRACK, b"4=1", track)),
         ("decode_field", decodes(alloc, &ACCOUNT, account, digits, 9)),
         ("decode_field", decodes(alloc, &PADDED, b"000012", b"12", 6)),
-        (
-            "decode_field",
-            decodes(alloc, &TRACK, b"\x03\x04\xd1", b"4=1", 3),
-        ),
-        (
-            "decode_value",
-            decodes_a_value(alloc, account, b"\x07378282246310005"),
-        ),
+        ("decode_field", decodes(alloc, &TRACK, part, b"4=1", 3)),
+        ("decode_value", decodes_a_value(alloc, account, value)),
         (
             "decode_judged",
-            decodes_judged(alloc, &ACCOUNT, account, b"\x07378282246310005"),
+            decodes_judged(alloc, &ACCOUNT, account, value),
         ),
         (
             "decode_judged",
