@@ -172,29 +172,42 @@ const PLAIN: &[(&[u8], &[u8], Route)] = &[
     (b"0810", b"301", Route::Unanswered),
 ];
 
+/// Ends the test unless the body has that route.
+fn check_route<R: Abort>(rt: &R, alloc: Global, table: &Table, body: &[u8], want: Route) {
+    let mut room = Message::new(alloc, Mti::from_text(b"0800").expect(rt, "a type"));
+    let route = shards(rt, alloc).route(table, body, &mut room);
+    assert_eq!(rt; route, Ok(want));
+}
+
 #[test]
-fn bodies_have_routes(rt: HostRuntime) {
+fn purchases_have_routes(rt: HostRuntime) {
     let alloc = rt.alloc();
-    let shards = shards(&rt, alloc);
     let table = Table::ascii87(alloc).expect(&rt, "memory");
-    let mut room = Message::new(alloc, Mti::from_text(b"0800").expect(&rt, "a type"));
     for (account, want) in PURCHASES {
         let body = purchase(&rt, alloc, &table, account);
-        assert_eq!(rt; shards.route(&table, &body, &mut room), Ok(*want));
+        check_route(&rt, alloc, &table, &body, *want);
     }
+}
+
+#[test]
+fn messages_of_the_network_have_routes(rt: HostRuntime) {
+    let alloc = rt.alloc();
+    let table = Table::ascii87(alloc).expect(&rt, "memory");
     for (mti, value, want) in PLAIN {
         let body = plain(&rt, alloc, &table, mti, value);
-        assert_eq!(rt; shards.route(&table, &body, &mut room), Ok(*want));
+        check_route(&rt, alloc, &table, &body, *want);
     }
+}
+
+#[test]
+fn other_bodies_have_routes(rt: HostRuntime) {
+    let alloc = rt.alloc();
+    let table = Table::ascii87(alloc).expect(&rt, "memory");
     let undo = reversal(&rt, alloc, &table);
-    let all = Route::All { key: REVERSAL };
-    assert_eq!(rt; shards.route(&table, &undo, &mut room), Ok(all));
+    check_route(&rt, alloc, &table, &undo, Route::All { key: REVERSAL });
     let mut cut = purchase(&rt, alloc, &table, b"4000000000000000");
     let _last = cut.pop();
-    assert_eq!(rt;
-        shards.route(&table, &cut, &mut room),
-        Ok(Route::Unreadable)
-    );
+    check_route(&rt, alloc, &table, &cut, Route::Unreadable);
 }
 
 #[test]
