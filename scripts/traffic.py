@@ -163,8 +163,24 @@ class Peer:
         self.socket.close()
 
 
+# what marks each port that this process gave, for itself and for others, as long as it runs
+MARKS = []
+
+
+def is_given(port):
+    """Whether the port was given before, by this process or by another one that still runs. If not, it is given now."""
+    mark = socket.socket(socket.AF_UNIX)
+    try:
+        mark.bind(f"\0rumpadol-port-{port}")
+    except OSError:
+        mark.close()
+        return True
+    MARKS.append(mark)
+    return False
+
+
 def free_ports(count):
-    """Ports that nobody has now, and that the system gives to no connection while a host is down."""
+    """Ports that nobody has now and that no other call gave, and that the system gives to no connection while a host is down."""
     end = max(2048, int(pathlib.Path("/proc/sys/net/ipv4/ip_local_port_range").read_text().split()[0]))
     with contextlib.ExitStack() as stack:
         held = []
@@ -172,7 +188,8 @@ def free_ports(count):
             one = stack.enter_context(socket.socket())
             with contextlib.suppress(OSError):
                 one.bind((HERE, random.randrange(end // 2, end)))
-                held.append(one)
+                if not is_given(one.getsockname()[1]):
+                    held.append(one)
         return [one.getsockname()[1] for one in held]
 
 
