@@ -12,6 +12,7 @@ use Rattle.iso_order.specs.declared.act.Money.{Money}
 use Rattle.iso_order.specs.Pan.{AccountNumber}
 use Rattle.iso_order.specs.Key.{function_digit}
 use Rattle.iso_order.specs.Order.{Instruction, same_currency}
+use Rattle.iso_order.proofs.Lists.{all-weaker, all-push, every, sum-all}
 use Rattle.iso_issuer.specs.declared.account.Account.{Account}
 use Rattle.iso_issuer.specs.declared.effect.Effect.{Effect}
 use Rattle.iso_issuer.specs.declared.effect.Side.{Side}
@@ -118,17 +119,9 @@ new_counts accounts before key (Complete m hold) left later long =
 
 -- ---- all entries
 
-all-push : {X : Type 0} (P : X → Type 0) (xs : List X) (x : X) → AllByRecursion P xs → P x → AllByRecursion P (xs ++ x ∷ [])
-all-push P [] x all p = (p, tt)
-all-push P (y ∷ ys) x all p = (all.0, all-push P ys x all.1 p)
-
 all-last : {X : Type 0} (P : X → Type 0) (xs ys : List X) (x : X) → AllByRecursion P ((xs ++ x ∷ []) ++ ys) → P x
 all-last P [] ys x all = all.0
 all-last P (y ∷ xs) ys x all = all-last P xs ys x all.1
-
-all-weaker : {X : Type 0} (P Q : X → Type 0) (xs : List X) → ((x : X) → P x → Q x) → AllByRecursion P xs → AllByRecursion Q xs
-all-weaker P Q [] f all = tt
-all-weaker P Q (x ∷ xs) f all = (f x all.0, all-weaker P Q xs f all.1)
 
 abbrev Counts : List Account → (TxKey → Option ℕ) → Entry → Type 0
 Counts accounts left e = is_counted_with (left e.order.key) e ≡ is_good accounts e.order.act && not (is_nothing (left e.order.key))
@@ -149,10 +142,6 @@ each_counts accounts left before (o ∷ os) later long all =
 
 -- ---- sums and tests over entries and over their orders
 
-sum-all : {X : Type 0} (f g : X → ℕ) (xs : List X) → AllByRecursion (λ x. f x ≡ g x) xs → sum_by f xs ≡ sum_by g xs
-sum-all f g [] all = refl
-sum-all f g (x ∷ xs) all = omega (arith, all.0, sum-all f g xs all.1, sum_by-cons f x xs, sum_by-cons g x xs)
-
 sum-mapped : {X Y : Type 0} (f : Y → ℕ) (g : X → Y) (xs : List X) → sum_by (λ x. f (g x)) xs ≡ sum_by f (map g xs)
 sum-mapped f g [] = refl
 sum-mapped f g (x ∷ xs) = omega (arith, sum-mapped f g xs, sum_by-cons (λ x. f (g x)) x xs, sum_by-cons f (g x) (map g xs))
@@ -164,10 +153,6 @@ any-all p q (x ∷ xs) all = ap (λ b. b || list_any p xs) all.0 ∙ ap (λ b. q
 any-mapped : {X Y : Type 0} (p : Y → Bool) (f : X → Y) (xs : List X) → list_any (λ x. p (f x)) xs ≡ list_any p (map f xs)
 any-mapped p f [] = refl
 any-mapped p f (x ∷ xs) = ap (λ b. p (f x) || b) (any-mapped p f xs)
-
-every : {X : Type 0} (P : X → Type 0) (xs : List X) → ((x : X) → P x) → AllByRecursion P xs
-every P [] each = tt
-every P (x ∷ xs) each = (each x, every P xs each)
 
 -- ---- a journal, by its orders
 

@@ -14,11 +14,11 @@ use Rattle.iso_order.specs.declared.key.TxKey.{TxKey}
 use Rattle.iso_order.specs.Pan.{AccountNumber}
 use Rattle.iso_order.specs.Key.{same_key}
 use Rattle.iso_order.specs.Order.{same_pan}
-use Rattle.iso_issuer.proofs.Keys.{same_key_is, same_pan_is}
 use Rattle.iso_issuer.specs.declared.effect.Hold.{Hold}
 use Rattle.iso_issuer.specs.Index.{key_cmp, pan_cmp, hold_cmp, bit, hold_count, mark_at, completions, hold_on, hold_by, added_by, dropped_of_entry, dropped_at_key, dropped_by_act, AreCounts}
 use Rattle.iso_order.specs.declared.act.Act.{Act}
 use Rattle.iso_order.specs.declared.act.Act.TheVariants.{Debit, Credit, Inquiry, Undo, Complete}
+use Rattle.iso_order.proofs.Same.{same_key_is, same_pan_is}
 use Rattle.iso_issuer.specs.declared.effect.Effect.{Effect}
 use Rattle.iso_issuer.specs.declared.journal.Entry.{Entry}
 use Rattle.iso_issuer.specs.Effect.{effect_of, effect_by, is_key, is_end_of}

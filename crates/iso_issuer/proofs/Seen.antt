@@ -9,6 +9,7 @@ use Rattle.iso_order.specs.declared.act.Money.{Money}
 use Rattle.iso_order.specs.Order.{Instruction, money_of}
 use Rattle.iso_issuer.specs.declared.journal.Entry.{Entry}
 use Rattle.iso_order.specs.Pan.{AccountNumber}
+use Rattle.iso_order.proofs.Same.{same_key_is}
 use Rattle.iso_issuer.specs.declared.effect.Effect.{Effect}
 use Rattle.iso_issuer.specs.declared.found.Touched.{Touched}
 use Rattle.iso_issuer.specs.declared.found.Found.{Found}
@@ -17,7 +18,6 @@ use Rattle.iso_issuer.specs.Journal.{entry_at, undone_key, left_by, left_at, wei
 use Rattle.iso_issuer.specs.Found.{weight_at, reversed_by, released_by, ended_key, touched_at, entry_in, weight_in, amount_left, IsFoundFor, WasFoundFor}
 use Rattle.iso_issuer.specs.Index.{dropped_of_entry, dropped_at_key, dropped_by_act}
 use Rattle.iso_issuer.proofs.ByKey.{left-push, left-kept}
-use Rattle.iso_issuer.proofs.Keys.{same_key_is}
 use Rattle.iso_issuer.proofs.Sums.{AreApart}
 use Rattle.iso_issuer.proofs.Touched.{found-key}
 

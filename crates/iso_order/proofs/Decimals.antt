@@ -7,33 +7,19 @@ use Rattle.std.specs.List.{list_all}
 use Rattle.std.proofs.lemmas.Bool.{and_parts, and_from, cases_lt}
 use Rattle.std.proofs.lemmas.Bool.Decides.{nat_tests}
 use Rattle.iso_wire.specs.Decimal.{decimal, are_digits, number_after, number}
+use Rattle.iso_wire.proofs.Decimals.{power-up, list_all-decimal, length-decimal, number-decimal}
 use Rattle.iso_order.specs.Requests.{shortest, acquirer_code}
 use Rattle.iso_parts.specs.Class.{is_digit}
-use Rattle.iso_order.proofs.Numbers.{number_after-push, power-up}
-use Rattle.iso_order.proofs.Rows.{list_all-decimal, length-decimal}
 
 power_next : (n : ℕ) → 10 ^ suc n ≡ 10 ^ n * 10
 power_next n = simp unary_clauses refl
 
 -- ---- so many digits
 
--- they write the number
-pub number-decimal : (n v : ℕ) → v < 10 ^ n → number (decimal n v) ≡ v
-number-decimal zero v lt = omega arith
-number-decimal (suc n) v lt =
-    let next = power_next n in
-    let front : number (decimal n (v / 10)) ≡ v / 10 = number-decimal n (v / 10) (omega arith) in
-    number_after-push 0 (decimal n (v / 10)) (48 + v % 10) ∙ omega (arith, front)
-
 -- a text of so many digits
 pub digits-by : (least most : ℕ) (text : List ℕ) → least ≤ length text → length text ≤ most → list_all is_digit text ≡ true → are_digits least most text ≡ true
 digits-by least most text low high all =
     and_from _ _ (and_from _ _ (le-leb least (length text) low) (le-leb (length text) most high)) all
-
-pub are_digits-decimal : (n v : ℕ) → are_digits n n (decimal n v) ≡ true
-are_digits-decimal n v =
-    let size = length-decimal n v in
-    digits-by n n (decimal n v) (omega arith) (omega arith) (list_all-decimal n v)
 
 -- ---- without the zeros before them
 

@@ -16,6 +16,7 @@ use Rattle.iso_wire.specs.Decimal.{decimal}
 use Rattle.iso_wire.specs.Elements.{value_in}
 use Rattle.iso_wire.specs.Refusal.{refused_field, refused_by, first_refusal, message_refusal}
 use Rattle.iso_wire.specs.Spelling.{PartAs, Parts}
+use Rattle.iso_wire.proofs.Decimals.{list_all-decimal, length-decimal}
 use Rattle.iso_order.specs.Fields.{text}
 use Rattle.iso_parts.specs.Mti.{is_answered}
 use Rattle.iso_order.specs.Fitting.{IsAskedUnder, ResponsesFit}
@@ -26,7 +27,7 @@ use Rattle.iso_order.specs.Outcome.{Outcome}
 use Rattle.iso_order.specs.Response.{response_mti, is_echoed, is_approved, approval, sign, additional, balance, element, is_balance_inquiry, is_showable}
 use Rattle.iso_order.specs.Verdict.{verdict}
 use Rattle.iso_order.proofs.Ascending.{response-listed}
-use Rattle.iso_order.proofs.Rows.{list_all-decimal, length-decimal, list_all-more, digit_code, digits_fit, amount_fits, row_taken}
+use Rattle.iso_order.proofs.Rows.{list_all-more, digit_code, digits_fit, amount_fits, row_taken}
 use Rattle.iso_order.proofs.Shown.{balance_inquiry-currency, shown-currency}
 
 -- the table doesn't refuse the value as element n

@@ -1,15 +1,16 @@
 mod Ascending
 mod Suffices
 mod CodeLemmas
-mod Decimals
+pub mod Decimals
 mod Digits
 mod Fits
+pub mod Lists
 mod MessageVerdicts
-mod Numbers
+pub mod Plain
 mod RequestFits
 mod RequestVerdicts
 mod Rows
-mod Same
+pub mod Same
 mod Shown
 mod Sizes
 mod Table

@@ -19,6 +19,7 @@ use Rattle.iso_wire.specs.Decimal.{decimal}
 use Rattle.iso_wire.specs.OneSpelling.{WellFormed}
 use Rattle.iso_wire.specs.Refusal.{refused_field, refused_by, message_refusal}
 use Rattle.iso_wire.specs.Spelling.{AreBytes}
+use Rattle.iso_wire.proofs.Decimals.{are_digits-most, list_all-decimal, length-decimal}
 use Rattle.iso_order.specs.declared.act.Act.{Act}
 use Rattle.iso_order.specs.declared.act.Act.TheVariants.{Debit, Credit, Inquiry, Undo, Complete}
 use Rattle.iso_order.specs.declared.act.Money.{Money}
@@ -29,10 +30,9 @@ use Rattle.iso_order.specs.Adding.{elements_with_value}
 use Rattle.iso_order.specs.Order.{Instruction, is_letter_or_digit, is_currency, is_account, has_amount, is_payment, is_hold_for, is_valid_act, money_of}
 use Rattle.iso_order.specs.Requests.{RequestsFit, RequestsAreWellFormed, processing_code, moved_amount, named_by, partial_left, account_number, acquirer_code, original_data, replacement_amounts, no_fee, request_value, request}
 use Rattle.iso_order.proofs.Decimals.{are_digits-acquirer}
-use Rattle.iso_order.proofs.Digits.{are_digits-most}
 use Rattle.iso_order.proofs.Fits.{IsTaken, refused-at}
 use Rattle.iso_order.proofs.RequestVerdicts.{original-digits}
-use Rattle.iso_order.proofs.Rows.{list_all-decimal, length-decimal, list_all-more, digit_code, digits_in, codes_in}
+use Rattle.iso_order.proofs.Rows.{list_all-more, digit_code, digits_in, codes_in}
 use Rattle.iso_order.proofs.Valid.{key_facts, moved-account, valid-parts}
 use Rattle.iso_order.proofs.WellFormed.{bytes-none, bytes-more, bytes-decimal, bytes-at, ascending-at}
 

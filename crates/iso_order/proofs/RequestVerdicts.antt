@@ -8,6 +8,7 @@ use Rattle.std.proofs.lemmas.List.Folds.{list_all-append}
 use Rattle.iso_wire.specs.Contents.{Contents}
 use Rattle.iso_wire.specs.Decimal.{decimal, are_digits, number}
 use Rattle.iso_wire.specs.Elements.{has, value_in}
+use Rattle.iso_wire.proofs.Decimals.{list_all-decimal, length-decimal, number-decimal, are_digits-decimal}
 use Rattle.iso_order.specs.declared.act.Act.{Act}
 use Rattle.iso_order.specs.declared.act.Act.TheVariants.{Debit, Credit, Inquiry, Undo, Complete}
 use Rattle.iso_order.specs.declared.act.Money.{Money}
@@ -23,9 +24,8 @@ use Rattle.iso_order.specs.Requests.{RequestsAsk, processing_code, moved_amount,
 use Rattle.iso_parts.specs.Class.{is_digit}
 use Rattle.iso_order.specs.Verdict.{first_of, completion_lines, verdict}
 use Rattle.iso_order.proofs.Ascending.{value_in-from}
-use Rattle.iso_order.proofs.Decimals.{number-decimal, are_digits-decimal, digits-by, are_digits-acquirer, number-acquirer}
+use Rattle.iso_order.proofs.Decimals.{digits-by, are_digits-acquirer, number-acquirer}
 use Rattle.iso_order.proofs.MessageVerdicts.{Keyed, Paying, Moving, reversal-verdict, debit-verdict, credit-verdict, inquiry-verdict}
-use Rattle.iso_order.proofs.Rows.{list_all-decimal, length-decimal}
 use Rattle.iso_order.proofs.Table.{not_completing, with_hold}
 use Rattle.iso_order.proofs.Valid.{KeyFacts, key_facts, moved-account, valid-parts}
 

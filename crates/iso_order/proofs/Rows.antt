@@ -1,10 +1,9 @@
 -- Which values the rows of a host take.
-use Rattle.std.proofs.Common.{◌≡◌, ℕ, zero, suc, ◌+◌, ◌/◌, ◌%◌, ◌≤◌, Bool, true, false, ◌&&◌, List, [], ◌∷◌, length, length-append, Option, Some, None, refl, sym, ap, ◌∙◌, arith}
+use Rattle.std.proofs.Common.{◌≡◌, ℕ, ◌≤◌, Bool, true, false, ◌&&◌, List, [], ◌∷◌, length, Option, Some, None, refl, sym, ap, ◌∙◌, arith}
 use Rattle.std.specs.Prelude.{nat_le, ◌==◌, if◌then◌else◌}
 use Rattle.std.specs.List.{list_all}
 use Rattle.std.proofs.lemmas.Bool.{and_parts, and_from, eqb-true}
 use Rattle.std.proofs.lemmas.Bool.Decides.{nat_tests}
-use Rattle.std.proofs.lemmas.List.Folds.{list_all-append}
 use Rattle.iso_parts.specs.declared.class.CharClass.{CharClass}
 use Rattle.iso_parts.specs.declared.class.CharClass.TheVariants as classes
 use Rattle.iso_parts.specs.declared.prefix.Length.{Length}
@@ -18,26 +17,8 @@ use Rattle.iso_parts.specs.Spec.{is_exact, has_pad_end, Fits}
 use Rattle.iso_table.specs.declared.host_ready.HostRow.{HostRow}
 use Rattle.iso_table.specs.declared.host_ready.Shape.TheVariants.{Text, Amounts}
 use Rattle.iso_table.specs.HostReady.{is_an, is_n_or_an, is_fixed, is_ll_or_lll, is_unpadded, is_shape, IsHostRow}
-use Rattle.iso_wire.specs.Decimal.{decimal}
 use Rattle.iso_wire.specs.Refusal.{refused_field, refused_by}
 use Rattle.iso_order.specs.Order.{is_letter_or_digit}
-
--- ---- decimal digits
-
-last_digit : (v : ℕ) → is_digit (48 + v % 10) ≡ true
-last_digit v = grind (arith, nat_tests)
-
-pub list_all-decimal : (n v : ℕ) → list_all is_digit (decimal n v) ≡ true
-list_all-decimal zero v = refl
-list_all-decimal (suc n) v =
-    let last = (48 + v % 10) ∷ [] in
-    list_all-append is_digit (decimal n (v / 10)) last ∙ and_from _ _ (list_all-decimal n (v / 10)) (and_from _ _ (last_digit v) refl)
-
-pub length-decimal : (n v : ℕ) → length (decimal n v) ≡ n
-length-decimal zero v = refl
-length-decimal (suc n) v =
-    let before = length-decimal n (v / 10) in
-    length-append (decimal n (v / 10)) ((48 + v % 10) ∷ []) ∙ omega arith
 
 -- ---- classes
 

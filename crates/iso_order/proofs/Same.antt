@@ -1,9 +1,10 @@
 -- What compares alike is one: keys, account numbers, money, acts and orders.
-use Rattle.std.proofs.Common.{◌≡◌, ℕ, Bool, true, false, refl, arith, ap, sym, ◌∙◌, subst, List, [], ◌∷◌}
+use Rattle.std.proofs.Common.{◌≡◌, ℕ, Bool, true, refl, arith, ap, sym, ◌∙◌, subst, List, [], ◌∷◌}
 use Rattle.std.specs.Prelude.{IsTrue, ◌↔◌, ◌&&◌, ◌==◌}
 use Rattle.std.specs.Str.{bytes_eq}
 use Rattle.std.specs.Cmp.Lexicographic.{same_text}
 use Rattle.std.proofs.lemmas.Grind.{common_steps}
+use Rattle.std.proofs.lemmas.Bool.{and_parts}
 use Rattle.iso_order.specs.declared.key.TxKey.{TxKey}
 use Rattle.iso_order.specs.Pan.{AccountNumber}
 use Rattle.iso_order.specs.declared.act.Money.{Money}
@@ -29,6 +30,9 @@ same_pan_is a b h = grind (arith, common_steps)
 pub same_pan_self : (a : AccountNumber) → same_pan a a ≡ true
 same_pan_self a = grind (arith, common_steps)
 
+pub same_pan_sym : (a b : AccountNumber) → same_pan a b ≡ same_pan b a
+same_pan_sym a b = grind (arith, common_steps)
+
 bytes_is : (a b : List ℕ) → bytes_eq a b ≡ true → a ≡ b
 bytes_is a b h = same_text a b (sym h)
 
@@ -36,15 +40,10 @@ bytes_self : (a : List ℕ) → bytes_eq a a ≡ true
 bytes_self [] = refl
 bytes_self (x ∷ xs) = grind (arith, common_steps, bytes_self xs)
 
--- both sides of an `&&` that is true
-pub both : (p q : Bool) → p && q ≡ true → (p ≡ true) × (q ≡ true)
-both true q h = (refl, h)
-both false q h = cc
-
 pub same_money_is : (a b : Money) → same_money a b ≡ true → a ≡ b
 same_money_is a b h =
-    let parts = both (same_pan a.pan b.pan && (a.amount == b.amount)) (bytes_eq a.currency b.currency) h in
-    let first = both (same_pan a.pan b.pan) (a.amount == b.amount) parts.0 in
+    let parts = and_parts (same_pan a.pan b.pan && (a.amount == b.amount)) (bytes_eq a.currency b.currency) h in
+    let first = and_parts (same_pan a.pan b.pan) (a.amount == b.amount) parts.0 in
     let pans = same_pan_is a.pan b.pan first.0 in
     let currencies = bytes_is a.currency b.currency parts.1 in
     let amounts : a.amount ≡ b.amount = grind (arith, common_steps, first.1) in
@@ -58,12 +57,12 @@ same_act_is (Debit a) (Debit b) h = ap Debit (same_money_is a b h)
 same_act_is (Credit a) (Credit b) h = ap Credit (same_money_is a b h)
 same_act_is (Inquiry a) (Inquiry b) h = ap Inquiry (same_money_is a b h)
 same_act_is (Undo a l) (Undo b n) h =
-    let parts = both (same_key a b) (l == n) h in
+    let parts = and_parts (same_key a b) (l == n) h in
     let keys : a ≡ b = same_key_is a b parts.0 in
     let amounts : l ≡ n = grind (arith, common_steps, parts.1) in
     cc
 same_act_is (Complete a h) (Complete b k) e =
-    let parts = both (same_money a b) (same_key h k) e in
+    let parts = and_parts (same_money a b) (same_key h k) e in
     let moneys : a ≡ b = same_money_is a b parts.0 in
     let keys : h ≡ k = same_key_is h k parts.1 in
     cc

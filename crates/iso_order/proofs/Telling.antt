@@ -5,6 +5,7 @@ use Rattle.std.proofs.lemmas.Bool.{and_parts, and_from, eqb-true, leb-true}
 use Rattle.std.proofs.lemmas.Bool.Decides.{nat_tests}
 use Rattle.iso_wire.specs.Contents.{Contents}
 use Rattle.iso_wire.specs.Decimal.{decimal, are_digits, number}
+use Rattle.iso_wire.proofs.Decimals.{number-decimal, are_digits-decimal}
 use Rattle.iso_order.specs.declared.key.TxKey.{TxKey}
 use Rattle.iso_order.specs.declared.verdict.Verdict.{Verdict}
 use Rattle.iso_order.specs.declared.verdict.Verdict.TheVariants.{Order, Reply, Silent}
@@ -16,7 +17,6 @@ use Rattle.iso_order.specs.Response.{response, response_mti, element}
 use Rattle.iso_order.specs.Told.{ResponsesTell, told_of, is_answer, answered_base, answered_key}
 use Rattle.iso_order.specs.Verdict.{first_of, answered_lines, network_lines, key_lines, reversal_lines, completion_lines, account_lines, act_lines, amount_lines, credit_verdict, verdict, IfOrder}
 use Rattle.iso_order.proofs.Ascending.{response-each}
-use Rattle.iso_order.proofs.Decimals.{number-decimal, are_digits-decimal}
 use Rattle.iso_order.proofs.Shown.{not_false}
 use Rattle.iso_order.proofs.Valid.{even_digit, key-valid}
 

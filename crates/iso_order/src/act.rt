@@ -31,15 +31,17 @@ pub enum Act {
     Credit(Money),
     /// Tell what is available.
     Inquiry(Money),
-    /// Take back what the transaction of that key moved or held, all but what is left, whenever it comes.
+    /// Reverse the transaction of that key (0400, 0420), whenever it comes: take back what it moved or held, all but what is left.
     Undo {
+        /// The key of the transaction that is reversed.
         original: TxKey,
         /// What is left of it, in minor units: 0 takes back the whole.
         left: u64,
     },
-    /// Take the amount from the account, and end the hold of that key on it.
+    /// Take the amount from the account, and end the hold of that key on it (0220).
     Complete {
         money: Money,
+        /// The key of the authorization whose hold ends.
         hold: TxKey,
     },
 }

@@ -1,5 +1,5 @@
 -- Reading a part from the front of bytes: the length before it, and then its body.
-use Rattle.std.specs.Prelude.{◌≡◌, ◌≢◌, ℕ, ◌++◌, Option, Some, None, ◌+◌, ◌*◌, ◌/◌, ◌%◌, ◌==◌, ◌||◌, nat_lt, List, [], ◌∷◌, length, take, drop, reverse, Result, Ok, Err, if◌then◌else◌}
+use Rattle.std.specs.Prelude.{◌≡◌, ◌≢◌, ℕ, ◌++◌, Option, Some, None, ◌+◌, ◌*◌, ◌/◌, ◌%◌, ◌==◌, ◌||◌, nat_lt, List, [], ◌∷◌, length, take, drop, reverse, codes, Result, Ok, Err, if◌then◌else◌}
 use Rattle.hex.specs.Hex.{decode_of}
 use Rattle.hex.specs.declared.error.FromHexError.{FromHexError}
 use Rattle.iso_parts.specs.declared.encoding.Coding.{Coding}
@@ -50,9 +50,9 @@ number_of other = Err BadLengthDigits
 -- the count that the digits of a length tell, with zeros before fewer than four; under BCD three digits have a 0 before them
 abbrev pub count_of : Length → ℕ → List ℕ → Result ℕ FieldFault
 count_of lengths.Fixed max p = Ok max
-count_of (lengths.LL digits.Ascii) max p = number_of (48 ∷ 48 ∷ p)
-count_of (lengths.LL digits.Bcd) max p = number_of (48 ∷ 48 ∷ characters p)
-count_of (lengths.LLL digits.Ascii) max p = number_of (48 ∷ p)
+count_of (lengths.LL digits.Ascii) max p = number_of (codes "00" ++ p)
+count_of (lengths.LL digits.Bcd) max p = number_of (codes "00" ++ characters p)
+count_of (lengths.LLL digits.Ascii) max p = number_of (codes "0" ++ p)
 count_of (lengths.LLLL digits.Ascii) max p = number_of p
 count_of (lengths.LLLL digits.Bcd) max p = number_of (characters p)
 count_of (lengths.LLL digits.Bcd) max p = number_after_zero (characters p)

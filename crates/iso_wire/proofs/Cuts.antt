@@ -6,7 +6,7 @@ use Rattle.iso_wire.specs.declared.fault.UnpackFault.{UnpackFault}
 use Rattle.iso_wire.specs.declared.unpacker.Fed.{Fed}
 use Rattle.iso_wire.specs.declared.unpacker.Fed.TheVariants as fed
 use Rattle.iso_wire.specs.Unpacker.{Feeds}
-use Rattle.iso_wire.specs.Reading.{message_at, whole}
+use Rattle.iso_wire.specs.Reading.{message_at}
 use Rattle.iso_wire.specs.ReadingLaws.{IsShort, ReadingStays}
 use Rattle.iso_wire.specs.Spelling.{AreBytes}
 

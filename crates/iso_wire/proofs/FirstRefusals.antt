@@ -1,13 +1,13 @@
 -- The first refusal among elements is that of one element, and none before it is refused.
 use Rattle.std.specs.Option.{option_or}
-use Rattle.std.proofs.Common.{◌≡◌, ◌≢◌, ◌/◌, true, cond, eqb, List, [], ◌∷◌, ◌++◌, Option, Some, None, refl, sym, ap, ◌∙◌, arith}
+use Rattle.std.proofs.Common.{◌≡◌, ◌≢◌, ◌/◌, true, cond, eqb, List, [], ◌∷◌, Option, Some, None, refl, sym, ap, ◌∙◌, arith}
 use Rattle.std.proofs.lemmas.Bool.Decides.{nat_tests}
 use Rattle.iso_parts.specs.declared.spec.FieldSpec.{FieldSpec}
 use Rattle.iso_table.specs.Layout.{Layout, row_at}
 use Rattle.iso_wire.specs.declared.fault.PackFault.{PackFault}
 use Rattle.iso_wire.specs.declared.fault.PackFault.TheVariants.{WrongVersion, Memory}
 use Rattle.iso_wire.specs.Contents.{Contents}
-use Rattle.iso_wire.specs.Refusal.{refused_by, first_refusal, message_refusal, AreTaken, IsFirstRefusal}
+use Rattle.iso_wire.specs.Refusal.{refused_by, first_refusal, message_refusal, IsFirstRefusal}
 use Rattle.iso_wire.proofs.Orders.{Values}
 
 first_refused : (rows : List (Option FieldSpec)) (es : Values) (e : PackFault) → first_refusal rows es ≡ Some e → IsFirstRefusal rows es e

@@ -39,23 +39,11 @@ words first second size = Ok (first, second, size)
 
 -- ---- a length
 
--- a whole good length tells its count
-pub count_by : (t : Bool) (r : Result ℕ FieldFault) (n : ℕ) → cond t (Ok None) (some_count r) ≡ Ok (Some n) → (t ≡ false) × (r ≡ Ok n)
-count_by true r n e = absurd cc
-count_by false (Ok m) n e = let same : m ≡ n = cc in (refl, ap Ok same)
-count_by false (Err f) n e = absurd cc
-
 -- the bytes end inside the length
 pub lacks_by : (t : Bool) (r : Result ℕ FieldFault) → cond t (Ok None) (some_count r) ≡ Ok None → t ≡ true
 lacks_by true r is = refl
 lacks_by false (Ok m) is = absurd cc
 lacks_by false (Err f) is = absurd cc
-
--- a whole bad length is the fault
-pub fails_by : (t : Bool) (r : Result ℕ FieldFault) (e : FieldFault) → cond t (Ok None) (some_count r) ≡ Err e → (t ≡ false) × (r ≡ Err e)
-fails_by true r e is = absurd cc
-fails_by false (Ok m) e is = absurd cc
-fails_by false (Err f) e is = let same : f ≡ e = cc in (refl, ap Err same)
 
 -- ---- a body
 

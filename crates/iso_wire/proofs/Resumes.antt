@@ -21,13 +21,14 @@ use Rattle.iso_parts.specs.declared.bitmap.Bitmap.{Bitmap}
 use Rattle.iso_wire.specs.Contents.{Contents}
 use Rattle.iso_parts.specs.Numbers.{numbers_in}
 use Rattle.iso_parts.specs.Mti.{mti_size}
+use Rattle.iso_parts.proofs.Judges.{count_is, count_fails}
 use Rattle.iso_wire.specs.Reading.{◌>>=◌, halt, type_at, primary_at, secondary_at, words_by, words_at, fault_place, answer, value_by, elements_at, message_at, whole}
 use Rattle.iso_wire.specs.ReadingLaws.{IsShort}
 use Rattle.iso_wire.specs.Judging.{end_of, end_of_elements, end_by, body_end, body_end_under, behind_body, behind_maps, secondary_words, ends_from, IsPointWithin, GoesOn, Resumes, PassesPart, IsResumed}
 use Rattle.iso_wire.proofs.Endings.{Stays, type_stays, primary_stays, secondary_stays}
 use Rattle.iso_wire.proofs.NeverMemory.{NeverMemory, message}
 use Rattle.iso_wire.proofs.Orders.{Values}
-use Rattle.iso_wire.proofs.Readings.{behind_type, message_is, count_by, lacks_by, fails_by, end_is, size_by}
+use Rattle.iso_wire.proofs.Readings.{behind_type, message_is, lacks_by, end_is, size_by}
 
 -- what is good stays, whatever follows
 stays_ok : {A : Type 0} (r r' : Result A UnpackFault) (x : A) → r ≡ Ok x → Stays r r' → r' ≡ Ok x
@@ -56,7 +57,7 @@ record Counted (s : FieldSpec) (b : List ℕ) (n : ℕ) : Type 0 where
 counted : (s : FieldSpec) (b : List ℕ) (n : ℕ) → count_at s b ≡ Ok (Some n) → Counted s b n
 counted s b n is =
     let front = prefix_size s.length in
-    let good = count_by (ltb (length b) front) (prefix_of s (take front b)) n is in
+    let good = count_is (ltb (length b) front) (prefix_of s (take front b)) n is in
     record { room = ltb-false (length b) front good.0; read = good.1 }
 
 counted_more : (s : FieldSpec) (b x : List ℕ) (n : ℕ) → Counted s b n → Counted s (b ++ x) n
@@ -146,7 +147,7 @@ module _ (laws : PartLaws) where
   length_ends rows s old ns n at b e is row bad =
       let front = prefix_size s.length in
       let d : List ℕ = drop at b in
-      let read = fails_by (ltb (length d) front) (prefix_of s (take front d)) e bad in
+      let read = count_fails (ltb (length d) front) (prefix_of s (take front d)) e bad in
       let part : part_at s d ≡ fault e = cond-false (ltb (length d) front) more (at_prefix s d (prefix_of s (take front d))) read.0 ∙ ap (at_prefix s d) read.1 in
       let none : at + fault_place e front ≡ at = ap (λ (k : ℕ). at + k) (length_place e front (laws.length_fault s (take front d) e read.1)) ∙ omega arith in
       ap (λ (l : List ℕ). end_of_elements rows l at b) is

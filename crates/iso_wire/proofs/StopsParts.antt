@@ -4,16 +4,16 @@ use Rattle.std.proofs.lemmas.Bool.{ltb-false, ltb-true, lt-ltb, le-ltb, cond-tru
 use Rattle.std.proofs.lemmas.List.{take_at, drop_at, drop-drop, length-append, length-take, length-drop}
 use Rattle.std.proofs.Math.Seq.{take-add}
 use Rattle.iso_parts.specs.declared.digits.Digits.TheVariants as digits
-use Rattle.iso_parts.specs.declared.prefix.Length.{Length}
 use Rattle.iso_parts.specs.declared.prefix.Length.TheVariants as lengths
 use Rattle.iso_parts.specs.declared.spec.FieldSpec.{FieldSpec}
 use Rattle.iso_parts.specs.declared.fault.FieldFault.{FieldFault}
 use Rattle.iso_parts.specs.declared.fault.FieldFault.TheVariants as faults
 use Rattle.iso_parts.specs.PartLaws.{PartLaws}
 use Rattle.iso_parts.specs.PieceLaws.{PieceLaws}
-use Rattle.iso_parts.specs.Pieces.{TellsCount, IsCount, IsBadCount, IsBadBody}
+use Rattle.iso_parts.specs.Pieces.{IsCount, IsBadCount, IsBadBody}
 use Rattle.iso_parts.specs.Reading.{prefix_size, prefix_of, body_size, body_of, more, at_body, at_prefix, part_at}
 use Rattle.iso_parts.specs.Spec.{IsGood}
+use Rattle.iso_parts.proofs.PartStops.{length_told}
 use Rattle.iso_table.specs.Layout.{Layout, AreGood}
 use Rattle.iso_wire.specs.declared.fault.UnpackFault.{UnpackFault}
 use Rattle.iso_wire.specs.declared.fault.UnpackCause.{UnpackCause}
@@ -47,15 +47,6 @@ body_place s c p faults.LengthOver front bad = absurd bad
 body_place s c p faults.WrongLength front bad = absurd bad
 body_place s c p faults.PadEnd front bad = absurd bad
 body_place s c p faults.Memory front bad = absurd bad
-
-told_size : (k : Length) (max c : ℕ) (p : List ℕ) → TellsCount k max c p → length p ≡ prefix_size k
-told_size lengths.Fixed max c p told = ap length told.0
-told_size (lengths.LL digits.Ascii) max c p told = ap length told.1
-told_size (lengths.LL digits.Bcd) max c p told = ap length told.1
-told_size (lengths.LLL digits.Ascii) max c p told = ap length told.1
-told_size (lengths.LLL digits.Bcd) max c p told = ap length told.1
-told_size (lengths.LLLL digits.Ascii) max c p told = ap length told.1
-told_size (lengths.LLLL digits.Bcd) max c p told = ap length told.1
 
 -- the length is good, and the body stops reading with this fault
 pub record BodyHalts (t : Layout) (n : ℕ) (s : FieldSpec) (at : ℕ) (b : List ℕ) (e : UnpackFault) : Type 0 where
@@ -147,7 +138,7 @@ module _ (laws : PieceLaws) where
   behind_count n s c at p rest good bytes told most =
       let front = prefix_size s.length in
       let b : List ℕ = p ++ rest in
-      let size : length p ≡ front = told_size s.length s.max c p told in
+      let size : length p ≡ front = length_told s.length s.max c p told in
       let room : front ≤ length b = omega (arith, length-append p rest) in
       cond-false (ltb (length b) front) more (at_prefix s b (prefix_of s (take front b))) (le-ltb (length b) front room)
       ∙ ap (λ (l : List ℕ). at_prefix s b (prefix_of s l)) (take_at p rest front size)
@@ -159,7 +150,7 @@ module _ (laws : PieceLaws) where
       let front = prefix_size s.length in
       let size = body_size s.coding c in
       let b : List ℕ = p ++ rest in
-      let len : length p ≡ front = told_size s.length s.max c p told in
+      let len : length p ≡ front = length_told s.length s.max c p told in
       let both = length-append p rest in
       let short : length b < front + size = omega arith in
       let room : front ≤ length b = omega arith in
@@ -170,7 +161,7 @@ module _ (laws : PieceLaws) where
       let front = prefix_size s.length in
       let size = body_size s.coding c in
       let b : List ℕ = p ++ rest in
-      let len : length p ≡ front = told_size s.length s.max c p told in
+      let len : length p ≡ front = length_told s.length s.max c p told in
       let room : front + size ≤ length b = omega (arith, length-append p rest, h.0) in
       let read = (laws.bad_body s c f (take size rest) (omega (arith, length-take size rest, h.0))).1 h.1 in
       ap (answer s n at (length b)) (behind_count n s c at p rest good bytes told most

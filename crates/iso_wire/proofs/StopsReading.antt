@@ -15,13 +15,13 @@ use Rattle.iso_wire.specs.declared.fault.UnpackCause.{UnpackCause}
 use Rattle.iso_wire.specs.Contents.{Contents}
 use Rattle.iso_parts.specs.Numbers.{numbers_in}
 use Rattle.iso_parts.specs.Mti.{mti_size}
+use Rattle.iso_parts.proofs.NumberLaws.{numbers_agree}
 use Rattle.iso_wire.specs.Reading.{◌>>=◌, halt, type_at, primary_at, secondary_at, words_by, words_at, value_by, value_at, elements_at, message_at}
 use Rattle.iso_wire.specs.Spelling.{AreBytes}
 use Rattle.iso_wire.specs.Stops.{Piece, type, primary, secondary, count, body, owner, IsOwnType, below, IsBefore, CallFor, Halts, Stops}
 use Rattle.iso_wire.specs.StopsLaws.{StopsAsRead}
 use Rattle.iso_wire.proofs.Bytes.{bytes_take, bytes_drop}
 use Rattle.iso_wire.proofs.Messages.{type_again}
-use Rattle.iso_wire.proofs.NumberLaws.{numbers_agree}
 use Rattle.iso_wire.proofs.Orders.{numbers_of, Values}
 use Rattle.iso_wire.proofs.Readings.{made, words, behind_maps, behind_type, message_is}
 use Rattle.iso_wire.proofs.Sets.{made_from_set, numbers_from_set}

@@ -1,13 +1,12 @@
 -- A message type that is written is read again, and one that is read is the one that was written.
-use Rattle.std.proofs.Common.{◌≡◌, ℕ, ◌+◌, ◌-◌, ◌*◌, ◌/◌, ◌%◌, ◌≤◌, ◌<◌, true, List, [], ◌∷◌, length, get_or, Some, refl, ap, ◌∙◌, arith}
+use Rattle.std.proofs.Common.{◌≡◌, ℕ, ◌+◌, ◌-◌, ◌*◌, ◌/◌, ◌%◌, ◌≤◌, ◌<◌, List, [], ◌∷◌, length, get_or, Some, refl, ap, ◌∙◌, arith}
 use Rattle.std.proofs.lemmas.Bool.{and_parts}
-use Rattle.std.proofs.lemmas.Bool.Decides.{nat_tests}
 use Rattle.std.proofs.lemmas.Option.{cond_some}
 use Rattle.iso_parts.specs.declared.digits.Digits.{Digits}
 use Rattle.iso_parts.specs.declared.digits.Digits.TheVariants as digits
-use Rattle.iso_parts.specs.Class.{is_digit}
 use Rattle.iso_parts.specs.Mti.{mti_size}
 use Rattle.iso_parts.specs.Digits.{four_digits, four_digits_of, four_digits_in}
+use Rattle.iso_parts.proofs.Prefixes.{is_digit-within, digit_low, digit_high}
 
 record AreDigits (a b c d n : ℕ) : Type 0 where
   pub a_low : 48 ≤ a
@@ -20,17 +19,8 @@ record AreDigits (a b c d n : ℕ) : Type 0 where
   pub d_high : d ≤ 57
   pub value : 1000 * (a - 48) + 100 * (b - 48) + 10 * (c - 48) + (d - 48) ≡ n
 
-digit_is : (a : ℕ) → 48 ≤ a → a ≤ 57 → is_digit a ≡ true
-digit_is a low high = grind (arith, nat_tests)
-
-digit_low : (a : ℕ) → is_digit a ≡ true → 48 ≤ a
-digit_low a h = grind (arith, nat_tests)
-
-digit_high : (a : ℕ) → is_digit a ≡ true → a ≤ 57
-digit_high a h = grind (arith, nat_tests)
-
 four_again : (a b c d n : ℕ) → AreDigits a b c d n → four_digits a b c d ≡ Some n
-four_again a b c d n h = rw (digit_is a h.a_low h.a_high, digit_is b h.b_low h.b_high, digit_is c h.c_low h.c_high, digit_is d h.d_low h.d_high) (ap Some h.value)
+four_again a b c d n h = rw (is_digit-within a h.a_low h.a_high, is_digit-within b h.b_low h.b_high, is_digit-within c h.c_low h.c_high, is_digit-within d h.d_low h.d_high) (ap Some h.value)
 
 four_takes : (a b c d n : ℕ) → four_digits a b c d ≡ Some n → AreDigits a b c d n
 four_takes a b c d n h =

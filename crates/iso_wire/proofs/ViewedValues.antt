@@ -12,6 +12,7 @@ use Rattle.iso_wire.specs.Contents.{Contents}
 use Rattle.iso_wire.specs.declared.bodies.Bodies.{Bodies}
 use Rattle.iso_wire.specs.Elements.{value_in}
 use Rattle.iso_parts.specs.Digits.{four_digits_of}
+use Rattle.iso_parts.proofs.Parts.{length-prefix}
 use Rattle.iso_wire.specs.Appending.{AppendsPart}
 use Rattle.iso_wire.specs.Faults.{out_of_memory}
 use Rattle.iso_wire.specs.Reading.{IsFaultOf, value_at}
@@ -23,7 +24,6 @@ use Rattle.iso_wire.specs.declared.fault.UnpackCause.{UnpackCause}
 use Rattle.iso_wire.specs.declared.fault.UnpackCause.TheVariants.{Short, BadMti, WrongVersion, BadHex, ThirdBitmap, UnknownElement, Field, Memory}
 use Rattle.iso_wire.proofs.ElementLaws.{part_read}
 use Rattle.iso_wire.proofs.Orders.{Values}
-use Rattle.iso_wire.proofs.Views.{length-prefix}
 
 -- the value of n is there, and its part lies behind a length before the body
 pub record IsValueAt (rows : List (Option FieldSpec)) (es : Values) (n start : ℕ) (b : List ℕ) : Type 0 where

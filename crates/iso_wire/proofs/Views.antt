@@ -9,8 +9,8 @@ use Rattle.iso_parts.specs.Part.{Body, Part, with_padding, prefix}
 use Rattle.iso_parts.specs.Reading.{prefix_size, body_size}
 use Rattle.iso_parts.specs.PartLaws.{PartLaws}
 use Rattle.iso_parts.specs.declared.digits.Digits.TheVariants as digits
-use Rattle.iso_parts.specs.declared.prefix.Length.{Length}
 use Rattle.iso_parts.specs.declared.prefix.Length.TheVariants as lengths
+use Rattle.iso_parts.proofs.Parts.{length-prefix}
 use Rattle.iso_table.specs.Layout.{Layout, row_at, AreGood}
 use Rattle.iso_wire.specs.declared.fault.UnpackFault.{UnpackFault}
 use Rattle.std.specs.Borrow.{Bor}
@@ -42,15 +42,6 @@ record IsBody (rows : List (Option FieldSpec)) (n : ℕ) (b v : List ℕ) (used 
   pub is : row_at rows n ≡ Some row
   pub body : Body row v (wire_at (row_at rows n) b used)
   pub part : take used b ≡ prefix row.length (length v) ++ wire_at (row_at rows n) b used
-
-pub length-prefix : (k : Length) (n : ℕ) → length (prefix k n) ≡ prefix_size k
-length-prefix lengths.Fixed n = refl
-length-prefix (lengths.LL digits.Ascii) n = refl
-length-prefix (lengths.LL digits.Bcd) n = refl
-length-prefix (lengths.LLL digits.Ascii) n = refl
-length-prefix (lengths.LLL digits.Bcd) n = refl
-length-prefix (lengths.LLLL digits.Ascii) n = refl
-length-prefix (lengths.LLLL digits.Bcd) n = refl
 
 body_of : (rows : List (Option FieldSpec)) (n : ℕ) (b v : List ℕ) (used : ℕ) → used ≤ length b → PartAs rows n v (take used b) → IsBody rows n b v used
 body_of rows n b v used room part =

@@ -12,6 +12,7 @@ use Rattle.iso_parts.specs.declared.bitmap.Bitmap.{Bitmap}
 use Rattle.iso_parts.specs.declared.fault.FieldFault.{FieldFault}
 use Rattle.iso_parts.specs.declared.spec.FieldSpec.{FieldSpec}
 use Rattle.iso_parts.specs.Numbers.{members}
+use Rattle.iso_parts.proofs.Judges.{count_is}
 use Rattle.iso_table.specs.Layout.{Layout, row_at, AreGood}
 use Rattle.iso_wire.specs.Judging.{end_by, body_end}
 use Rattle.iso_wire.specs.Reading.{answer, value_by, value_at}
@@ -25,7 +26,7 @@ use Rattle.iso_wire.proofs.Bytes.{bytes_drop}
 use Rattle.iso_wire.proofs.ElementLaws.{value_taken}
 use Rattle.iso_wire.proofs.Orders.{numbers_of, Values}
 use Rattle.iso_wire.proofs.StopsMaps.{fault_is, HaltsAs}
-use Rattle.iso_wire.proofs.Readings.{count_by, end_is, size_read, short_by, bad_by, SizeRead}
+use Rattle.iso_wire.proofs.Readings.{end_is, size_read, short_by, bad_by, SizeRead}
 use Rattle.iso_wire.proofs.WalkPlaces.{front_ascends, fewer}
 use Rattle.iso_wire.proofs.WalkFronts.{halts_as}
 
@@ -66,7 +67,7 @@ module _ (laws : PartLaws) where
   part_is t n c s at size b good bytes row counted read =
       let front = prefix_size s.length in
       let rest : List ℕ = drop front b in
-      let one = count_by (ltb (length b) front) (prefix_of s (take front b)) c counted in
+      let one = count_is (ltb (length b) front) (prefix_of s (take front b)) c counted in
       let room : front ≤ length b = ltb-false (length b) front one.0 in
       let own = body_size s.coding c in
       let whole_room : front + own ≤ length b = omega (arith, room, read.room, read.is, length-drop front b) in

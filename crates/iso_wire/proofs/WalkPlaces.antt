@@ -12,6 +12,7 @@ use Rattle.iso_parts.specs.PieceLaws.{PieceLaws}
 use Rattle.iso_parts.specs.Reading.{prefix_size, prefix_of}
 use Rattle.iso_parts.specs.declared.spec.FieldSpec.{FieldSpec}
 use Rattle.iso_parts.specs.Numbers.{members}
+use Rattle.iso_parts.proofs.Judges.{count_is}
 use Rattle.iso_table.specs.Layout.{Layout, row_at, AreGood}
 use Rattle.iso_wire.specs.Contents.{Contents}
 use Rattle.iso_wire.specs.Pieces.{StandsBefore, left_of}
@@ -32,7 +33,7 @@ use Rattle.iso_wire.proofs.StopsMaps.{type_taken}
 use Rattle.iso_wire.proofs.StopsNumbers.{is_split, some_is}
 use Rattle.iso_wire.proofs.Wires.{Ascends, numbers_ascend}
 use Rattle.iso_wire.proofs.WordLaws.{words_taken}
-use Rattle.iso_wire.proofs.Readings.{message_is, made, behind_maps, behind_type, count_by}
+use Rattle.iso_wire.proofs.Readings.{message_is, made, behind_maps, behind_type}
 
 -- ---- the numbers that are left
 
@@ -156,7 +157,7 @@ module _ (part_laws : PartLaws) (map_laws : MapLaws) (piece_laws : PieceLaws) wh
       let p : List ℕ = take front rest in
       let before = row_before part_laws map_laws t n ns h.start b good bytes h.front in
       let same : before.row ≡ s = (let both : Some before.row ≡ Some s = sym before.is ∙ h.is in cc) in
-      let read = count_by (ltb (length rest) front) (prefix_of s p) c h.told in
+      let read = count_is (ltb (length rest) front) (prefix_of s p) c h.told in
       let room : front ≤ length rest = ltb-false (length rest) front read.0 in
       let told = (piece_laws.count s c p (good n s h.is) (bytes_take front rest (bytes_drop h.start b bytes)) (omega (arith, length-take front rest))).0 read.1 in
       let start_room = front_room t (n ∷ ns) h.start b map_laws bytes h.front in

@@ -23,8 +23,8 @@ use Rattle.iso_parts.specs.Numbers.{numbers}
 use Rattle.iso_wire.specs.Reading.{◌>>=◌, value_at}
 use Rattle.iso_wire.specs.Bodies.{longest_part, start_at, body_size_at, body_in, wire_of, wires_in, start_of, starts_in, IsBodyWithin, AreWithin, BeginsThere, wire_at, wires_at}
 use Rattle.iso_parts.specs.Numbers.{members}
+use Rattle.iso_parts.proofs.NumberLaws.{one_more, no_more, no_numbers}
 use Rattle.iso_wire.proofs.Loop.{with_front}
-use Rattle.iso_wire.proofs.NumberLaws.{one_more, no_more, no_numbers}
 use Rattle.iso_wire.proofs.Orders.{Values}
 
 regroup : (front : Values) (e : ℕ × List ℕ) (read : Result (Values × ℕ) UnpackFault) → with_front front (read >>= λ x. Ok (e ∷ x.0, x.1)) ≡ with_front (front ++ e ∷ []) read

@@ -1,8 +1,7 @@
 use Rattle.std.proofs.Common.{◌≡◌, true, false, sym, ◌∙◌, ap}
 use Rattle.iso_order.specs.declared.key.TxKey.{TxKey}
-use Rattle.iso_order.specs.Fields.{text, original_mti, original_of, is_hold, is_own}
-use Rattle.iso_wire.specs.Decimal.{are_digits}
-use Rattle.std.specs.Prelude.{Some, None, is_some, if◌then◌else◌}
+use Rattle.iso_order.specs.Fields.{original_mti, original_of, is_hold, is_own}
+use Rattle.std.specs.Prelude.{Some, None, if◌then◌else◌}
 use Rattle.iso_order.proofs.Table.{turned, no_hold, hold_of_another_type, hold_of_another_acquirer, with_hold}
 use Rattle.iso_order.proofs.Valid.{hold-valid}
 use Rattle.iso_order.proofs.original.named_hold.Goals as goal

@@ -1,5 +1,5 @@
--- Numbers that compare alike, and other plain facts.
-use Rattle.std.proofs.Common.{◌≡◌, ◌≢◌, ℕ, Bool, true, false, refl, arith, ap}
+-- Numbers that compare alike, and other plain facts: for the crates above.
+use Rattle.std.proofs.Common.{◌≡◌, ◌≢◌, ℕ, Bool, true, false, arith}
 use Rattle.std.specs.Prelude.{◌==◌, Some, None}
 use Rattle.std.proofs.lemmas.Grind.{common_steps}
 
@@ -14,9 +14,6 @@ other_number a b h = grind (arith, common_steps)
 
 pub unlike : (a b : ℕ) → (a == b) ≡ false → a ≢ b
 unlike a b h = λ e. grind (arith, common_steps, h, e)
-
-pub some_is : {A : Type 0} (x y : A) → Some x ≡ Some y → x ≡ y
-some_is x y h = cc
 
 pub clash : (b : Bool) → b ≡ true → b ≡ false → ⊥
 clash true h k = cc
