@@ -1,6 +1,7 @@
 -- Both ends agree on each transaction.
 use Rattle.std.proofs.Common.{◌≡◌, ℕ, refl, subst}
 use Rattle.std.specs.Prelude.{Option, Some, None, option_map, option_and_then}
+use Rattle.iso_order.proofs.Lists.{some_is}
 use Rattle.iso_issuer.specs.StandingLaws.{GrantedStands, DeclinedFalls, NoneIsNone, StandsNoMore, ReversedNeverStands}
 use Rattle.iso_acquirer.specs.declared.slot.Slot.{Slot}
 use Rattle.iso_acquirer.specs.declared.slot.Role.{Role}
@@ -12,7 +13,6 @@ use Rattle.iso_acquirer.specs.Acquirer.{slot_at, state_at_stage, state_in_role}
 use Rattle.iso_acquirer.specs.World.{World}
 use Rattle.iso_acquirer.specs.Agreed.{IsSound}
 use Rattle.iso_acquirer.specs.Agreement.{AgreesIn, BothAgree}
-use Rattle.iso_acquirer.proofs.Keys.{some_is}
 use Rattle.iso_acquirer.proofs.Numbered.{found}
 use Rattle.iso_acquirer.proofs.Clauses.{approved-stands, declined-never, reversed-never}
 

@@ -7,6 +7,8 @@ use Rattle.std.proofs.lemmas.List.Folds.{find-append}
 use Rattle.iso_order.specs.declared.act.Act.TheVariants.{Debit}
 use Rattle.iso_order.specs.declared.act.Money.{Money}
 use Rattle.iso_order.specs.Order.{Instruction}
+use Rattle.iso_order.proofs.Lists.{all-weaker, all-push, some_is, find-more}
+use Rattle.iso_order.proofs.Plain.{same_number, number_self, none-some}
 use Rattle.iso_issuer.specs.declared.journal.Entry.{Entry}
 use Rattle.iso_acquirer.specs.declared.event.Given.{Given}
 use Rattle.iso_acquirer.specs.declared.slot.Slot.{Slot}
@@ -16,8 +18,6 @@ use Rattle.iso_acquirer.specs.declared.slot.Stage.TheVariants.{Waiting, Reversin
 use Rattle.iso_acquirer.specs.Acquirer.{slot_at, order_at, undo_of, reversal_under, on_stage, slot_at_stage, slots_at_stage, transaction_of, reversal_for, slots_with, slots_with_reversal}
 use Rattle.iso_acquirer.specs.Room.{AreNumbered}
 use Rattle.iso_acquirer.specs.Agreed.{answer_at, IsRole, IsSlot, IsKnown, IsAgreed}
-use Rattle.iso_acquirer.proofs.Keys.{some_is, none_is_not, same_number, number_self}
-use Rattle.iso_acquirer.proofs.Lists.{all-push, all-weaker, find-more}
 use Rattle.iso_acquirer.proofs.Numbered.{above, found, numbered-changed, numbered-push, length-changed}
 use Rattle.iso_acquirer.proofs.Clauses.{slot_of_order, same_stage}
 use Rattle.iso_acquirer.proofs.Changed.{KeepsUndo, changed-found, changed-back, order-changed, known-changed, sent-changed, reversal-changed}
@@ -104,7 +104,7 @@ agreed-begun id slots sent given entries o m w next own base act =
     (agreed-made id slots sent given entries (transaction_of o) w.numbered
     (λ n s here. let old = w.slots_hold n s here in record { own = old.own; role = role-more entries slots (transaction_of o) s.order s.role old.role })
     w.entries_known w.sent_known w.given_kept next
-    (record { own = own; role = record { base = base; money = m; debit = act; held = tt; undone = λ u is. absurd (none_is_not u is) } }))
+    (record { own = own; role = record { base = base; money = m; debit = act; held = tt; undone = λ u is. absurd (none-some u is) } }))
     (order-new slots (transaction_of o) w.numbered next)
 
 -- ---- a transaction that waits is reversed
@@ -118,7 +118,7 @@ module _ (id : ℕ) (slots : List Slot) (sent : List Instruction) (given : List 
   keeps : KeepsUndo slots (λ _. Reversing u.key.stan) stan
   keeps x stage v there is undo =
       let same : Waiting n ≡ stage = same_stage (Waiting n) stage (sym role ∙ ap (λ (y : Slot). y.role) (some_is s x (sym here ∙ there)) ∙ is) in
-      absurd (none_is_not v (ap (undo_of x.order) same ∙ undo))
+      absurd (none-some v (ap (undo_of x.order) same ∙ undo))
 
   length_marked : length marked ≡ length slots
   length_marked = length-changed (λ _. Reversing u.key.stan) stan slots

@@ -3,6 +3,8 @@ use Rattle.std.proofs.Common.{◌≡◌, ℕ, Bool, true, false, refl, ap, sym, 
 use Rattle.std.specs.Prelude.{◌==◌, Option, Some, None, option_map, if◌then◌else◌}
 use Rattle.std.specs.List.{AllByRecursion}
 use Rattle.iso_order.specs.Order.{Instruction}
+use Rattle.iso_order.proofs.Lists.{all-weaker, some_is}
+use Rattle.iso_order.proofs.Plain.{same_number}
 use Rattle.iso_issuer.specs.declared.journal.Entry.{Entry}
 use Rattle.iso_acquirer.specs.declared.event.Given.{Given}
 use Rattle.iso_acquirer.specs.declared.slot.Slot.{Slot}
@@ -12,8 +14,6 @@ use Rattle.iso_acquirer.specs.declared.slot.Stage.{Stage}
 use Rattle.iso_acquirer.specs.Acquirer.{slot_at, order_at, undo_of, on_stage, slot_at_stage, slots_at_stage}
 use Rattle.iso_acquirer.specs.Room.{AreNumbered}
 use Rattle.iso_acquirer.specs.Agreed.{IsStageOf, IsReversal, IsRole, IsSlot, IsKnown, IsAgreed}
-use Rattle.iso_acquirer.proofs.Keys.{same_number, some_is}
-use Rattle.iso_acquirer.proofs.Lists.{all-weaker}
 use Rattle.iso_acquirer.proofs.Numbered.{found, numbered-changed}
 
 -- what is kept after a change

@@ -8,6 +8,9 @@ use Rattle.iso_order.specs.declared.act.Act.TheVariants.{Debit, Credit, Inquiry,
 use Rattle.iso_order.specs.declared.act.Money.{Money}
 use Rattle.iso_order.specs.Key.{same_key}
 use Rattle.iso_order.specs.Order.{Instruction}
+use Rattle.iso_order.proofs.Lists.{all-weaker, some_is}
+use Rattle.iso_order.proofs.Same.{same_key_is}
+use Rattle.iso_order.proofs.Plain.{none-some}
 use Rattle.iso_issuer.specs.declared.account.Account.{Account}
 use Rattle.iso_issuer.specs.declared.journal.Entry.{Entry}
 use Rattle.iso_issuer.specs.Effect.{effect_of, effect_by, is_key}
@@ -23,8 +26,6 @@ use Rattle.iso_acquirer.specs.declared.slot.Stage.TheVariants.{Approved, Decline
 use Rattle.iso_acquirer.specs.Acquirer.{slot_at, order_at, undo_of}
 use Rattle.iso_acquirer.specs.Agreed.{code_at, IsTransaction, IsRole, IsKnown, IsAgreed}
 use Rattle.iso_acquirer.specs.Agreement.{StandsIn}
-use Rattle.iso_acquirer.proofs.Keys.{same_key_is, some_is, none_is_not}
-use Rattle.iso_acquirer.proofs.Lists.{all-weaker}
 use Rattle.iso_acquirer.proofs.Numbered.{found}
 use Rattle.iso_acquirer.proofs.Made.{class_two, undo-acquirer}
 
@@ -113,7 +114,7 @@ module _ (id : ℕ) (slots : List Slot) (sent : List Instruction) (given : List 
     where
       by_test : (r : Entry) → IsKnown id slots r → (b : Bool) → is_key (undone_key r.order.act) s.order.key ≡ b → b ≡ false
       by_test r known false t = refl
-      by_test r known true t = absurd (none_is_not r.order (sym none ∙ (own_reversal n s stage here place role r known t).1))
+      by_test r known true t = absurd (none-some r.order (sym none ∙ (own_reversal n s stage here place role r known t).1))
 
   -- each entered reversal of a transaction leaves nothing
   pub all_wholly : (n : ℕ) (s : Slot) (stage : Stage) → slot_at slots n ≡ Some s → s.order.key.stan ≡ n → s.role ≡ Transaction stage → AllReverseWholly entries s.order.key

@@ -4,6 +4,8 @@ use Rattle.std.specs.Prelude.{◌==◌, Option, Some, None, option_and_then, nat
 use Rattle.iso_order.specs.declared.key.TxKey.{TxKey}
 use Rattle.iso_order.specs.Key.{same_key}
 use Rattle.iso_order.specs.Order.{Instruction}
+use Rattle.iso_order.proofs.Lists.{some_is}
+use Rattle.iso_order.proofs.Plain.{same_number}
 use Rattle.iso_acquirer.specs.declared.event.Event.{Event}
 use Rattle.iso_acquirer.specs.declared.event.Event.TheVariants.{Begin, Timeout, Deliver, Answer, Other}
 use Rattle.iso_acquirer.specs.declared.fault.AcqFault.{AcqFault}
@@ -20,7 +22,6 @@ use Rattle.iso_acquirer.specs.Room.{AreNumbered}
 use Rattle.iso_acquirer.specs.World.{World, IsMade, IsRan, IsStep, refusal_count}
 use Rattle.iso_acquirer.specs.Agreed.{IsSound}
 use Rattle.iso_acquirer.specs.Agreement.{is_closed, StaysClosed}
-use Rattle.iso_acquirer.proofs.Keys.{same_number, some_is}
 use Rattle.iso_acquirer.proofs.Numbered.{found}
 use Rattle.iso_acquirer.proofs.Clauses.{same_stage}
 use Rattle.iso_acquirer.proofs.Changed.{changed-found}

@@ -1,5 +1,3 @@
-pub mod Keys
-pub mod Lists
 pub mod Numbered
 pub mod Made
 pub mod Kept

@@ -3,14 +3,15 @@ use Rattle.std.proofs.Common.{◌≡◌, ℕ, Bool, true, refl, arith, ap, sym, 
 use Rattle.std.specs.Prelude.{◌&&◌, ◌||◌, ◌==◌, Option, Some, None, IsSome, nat_le, if◌then◌else◌}
 use Rattle.std.proofs.lemmas.Bool.Decides.{nat_tests}
 use Rattle.std.proofs.lemmas.Grind.{common_steps}
+use Rattle.std.proofs.lemmas.Bool.{and_from, and_parts}
 use Rattle.iso_order.specs.declared.key.TxKey.{TxKey}
 use Rattle.iso_order.specs.declared.act.Act.TheVariants.{Debit, Undo}
 use Rattle.iso_order.specs.declared.act.Money.{Money}
 use Rattle.iso_order.specs.Pan.{is_pan}
 use Rattle.iso_order.specs.Key.{class_digit, is_valid_key}
 use Rattle.iso_order.specs.Order.{Instruction, is_account, is_currency, has_amount, is_payment, is_valid, is_valid_act}
+use Rattle.iso_order.proofs.Plain.{number_self}
 use Rattle.iso_acquirer.specs.Acquirer.{IsFair, reversal_under}
-use Rattle.iso_acquirer.proofs.Keys.{both, both_true, number_self}
 
 -- a test that holds gives what it asks for
 pub is_some_if : {A : Type 0} (b : Bool) (x : A) (r : Option A) → b ≡ true → r ≡ (if b then Some x else None) → IsSome r
@@ -37,10 +38,10 @@ at_most a b h = grind (arith, nat_tests)
 pub debit-valid : (key : TxKey) (m : Money) → is_valid_key key ≡ true → key.base ≡ 200 → IsFair m.amount m.currency key.sent → is_pan m.pan ≡ true → is_valid (record { key = key; act = Debit m }) ≡ true
 unfolding is_valid
 debit-valid key m valid base fair pan =
-    both_true (is_valid_key key) (is_payment key && has_amount m) valid
-    (both_true (is_payment key) (has_amount m) (payment_of key base)
-    (both_true (is_account m && nat_le 1 m.amount) (nat_le m.amount 999999999999)
-    (both_true (is_account m) (nat_le 1 m.amount) (both_true (is_pan m.pan) (is_currency m.currency) pan fair.currency_fits) (at_most 1 m.amount fair.least))
+    and_from (is_valid_key key) (is_payment key && has_amount m) valid
+    (and_from (is_payment key) (has_amount m) (payment_of key base)
+    (and_from (is_account m && nat_le 1 m.amount) (nat_le m.amount 999999999999)
+    (and_from (is_account m) (nat_le 1 m.amount) (and_from (is_pan m.pan) (is_currency m.currency) pan fair.currency_fits) (at_most 1 m.amount fair.least))
     (at_most m.amount 999999999999 fair.most)))
 
 pub debit-made : (key : TxKey) (m : Money) → is_valid_key key ≡ true → key.base ≡ 200 → IsFair m.amount m.currency key.sent → is_pan m.pan ≡ true →
@@ -52,7 +53,7 @@ debit-made key m valid base fair pan r is =
 
 key-valid : (o : Instruction) → is_valid o ≡ true → is_valid_key o.key ≡ true
 unfolding is_valid
-key-valid o h = (both (is_valid_key o.key) (is_valid_act o.key o.act) h).0
+key-valid o h = (and_parts (is_valid_key o.key) (is_valid_act o.key o.act) h).0
 
 undo_key : (k : TxKey) (stan : ℕ) → is_valid_key k ≡ true → stan ≤ 999999 → is_valid_key (record { base = 420; stan = stan; sent = k.sent; acquirer = k.acquirer }) ≡ true
 undo_key k stan h few = grind (arith, nat_tests)
@@ -63,20 +64,20 @@ unfolding is_valid
 reversal-fits o stan valid base few =
     let key : TxKey = record { base = 420; stan = stan; sent = o.key.sent; acquirer = o.key.acquirer } in
     let original : is_valid_key o.key ≡ true = key-valid o valid in
-    both_true (is_valid_key key) _ (undo_key o.key stan original few)
-    (both_true (is_valid_key o.key && is_payment o.key && (o.key.acquirer == o.key.acquirer)) (nat_le 0 999999999999)
-    (both_true (is_valid_key o.key && is_payment o.key) (o.key.acquirer == o.key.acquirer)
-    (both_true (is_valid_key o.key) (is_payment o.key) original (payment_of o.key base)) (number_self o.key.acquirer o.key.acquirer refl))
+    and_from (is_valid_key key) _ (undo_key o.key stan original few)
+    (and_from (is_valid_key o.key && is_payment o.key && (o.key.acquirer == o.key.acquirer)) (nat_le 0 999999999999)
+    (and_from (is_valid_key o.key && is_payment o.key) (o.key.acquirer == o.key.acquirer)
+    (and_from (is_valid_key o.key) (is_payment o.key) original (payment_of o.key base)) (number_self o.key.acquirer o.key.acquirer refl))
     refl)
 
 -- a valid reversal names a key of its own acquirer
 undo_by : (key k : TxKey) (left : ℕ) → is_valid_act key (Undo k left) ≡ true → k.acquirer ≡ key.acquirer
 undo_by key k left h =
-    let e = both (class_digit key == 4 && is_valid_key k && is_payment k && (k.acquirer == key.acquirer)) (nat_le left 999999999999) h in
-    let f = both (class_digit key == 4 && is_valid_key k && is_payment k) (k.acquirer == key.acquirer) e.0 in
+    let e = and_parts (class_digit key == 4 && is_valid_key k && is_payment k && (k.acquirer == key.acquirer)) (nat_le left 999999999999) h in
+    let f = and_parts (class_digit key == 4 && is_valid_key k && is_payment k) (k.acquirer == key.acquirer) e.0 in
     grind (arith, common_steps, f.1)
 
 pub undo-acquirer : (o : Instruction) (k : TxKey) (left : ℕ) → is_valid o ≡ true → o.act ≡ Undo k left → k.acquirer ≡ o.key.acquirer
 unfolding is_valid
 undo-acquirer o k left h act =
-    undo_by o.key k left (subst (λ a. is_valid_act o.key a ≡ true) act (both (is_valid_key o.key) (is_valid_act o.key o.act) h).1)
+    undo_by o.key k left (subst (λ a. is_valid_act o.key a ≡ true) act (and_parts (is_valid_key o.key) (is_valid_act o.key o.act) h).1)

@@ -3,12 +3,13 @@ use Rattle.std.proofs.Common.{◌≡◌, ℕ, zero, suc, Bool, true, false, refl
 use Rattle.std.specs.Prelude.{◌==◌, Option, Some, None, sum_by, slice_get, IfSome}
 use Rattle.std.specs.List.{AllByRecursion}
 use Rattle.std.proofs.lemmas.List.Sums.{sum_by-cons}
+use Rattle.iso_order.proofs.Lists.{some_is}
+use Rattle.iso_order.proofs.Plain.{same_number, number_self, other_number}
 use Rattle.iso_acquirer.specs.declared.slot.Slot.{Slot}
 use Rattle.iso_acquirer.specs.declared.slot.Role.TheVariants.{Reversal}
 use Rattle.iso_acquirer.specs.declared.slot.Stage.{Stage}
 use Rattle.iso_acquirer.specs.Acquirer.{slot_at, slots_at_stage, slot_at_stage}
 use Rattle.iso_acquirer.specs.Room.{AreNumbered}
-use Rattle.iso_acquirer.proofs.Keys.{same_number, number_self, other_number, some_is}
 
 -- below the first number there is nothing
 pub below : (slots : List Slot) (n m : ℕ) → AreNumbered n slots → m < n → slot_at slots m ≡ None

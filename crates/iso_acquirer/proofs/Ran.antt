@@ -4,6 +4,8 @@ use Rattle.std.specs.Prelude.{Option, Some, None}
 use Rattle.std.specs.List.{AllByRecursion}
 use Rattle.iso_order.specs.Pan.{AccountNumber}
 use Rattle.iso_order.specs.Order.{Instruction}
+use Rattle.iso_order.proofs.Lists.{all-at}
+use Rattle.iso_order.proofs.Plain.{none-some}
 use Rattle.iso_issuer.specs.declared.account.Account.{Account}
 use Rattle.iso_issuer.specs.Books.{journal}
 use Rattle.iso_issuer.specs.Laws.{JournalsGrow, KnownChangesNothing, NewComesLast, KeysStayDistinct, AnswersAreEntered}
@@ -17,8 +19,6 @@ use Rattle.iso_acquirer.specs.World.{World, IsMade, IsStep, IsRan, IsBegun, IsAs
 use Rattle.iso_acquirer.specs.Agreed.{answer_at, IsSound}
 use Rattle.iso_acquirer.specs.Agreement.{StaysClosed}
 use Rattle.iso_acquirer.specs.Runs.{unused, CanHappen, IsAcquirer}
-use Rattle.iso_acquirer.proofs.Keys.{none_is_not}
-use Rattle.iso_acquirer.proofs.Lists.{all-at}
 use Rattle.iso_acquirer.proofs.Clauses.{transaction_at}
 use Rattle.iso_acquirer.proofs.Entered.{agreed-entering, agreed-delivered}
 use Rattle.iso_acquirer.proofs.Answered.{agreed-answered}
@@ -47,7 +47,7 @@ pub record IssuerLaws : Type 0 where
 pub sound-unused : (id : ℕ) (accounts : List Account) (limit : ℕ) → IsAcquirer id → IsRunSound (unused id accounts limit)
 sound-unused id accounts limit own = record {
   sound = record {
-    agreed = record { numbered = tt; slots_hold = λ n s there. absurd (none_is_not s there); entries_known = tt; sent_known = tt; given_kept = tt };
+    agreed = record { numbered = tt; slots_hold = λ n s there. absurd (none-some s there); entries_known = tt; sent_known = tt; given_kept = tt };
     distinct = tt;
   };
   own = own;

@@ -9,6 +9,7 @@ use Rattle.iso_order.specs.Pan.{AccountNumber}
 use Rattle.iso_order.specs.declared.key.TxKey.{TxKey}
 use Rattle.iso_order.specs.Key.{class_digit}
 use Rattle.iso_order.specs.Order.{Instruction, same_pan}
+use Rattle.iso_order.proofs.Lists.{all-weaker, some_is, sum-all}
 use Rattle.iso_issuer.specs.declared.account.Account.{Account}
 use Rattle.iso_issuer.specs.declared.effect.Side.TheVariants.{Credited, Debited, Held}
 use Rattle.iso_issuer.specs.declared.journal.Entry.{Entry}
@@ -28,12 +29,10 @@ use Rattle.iso_acquirer.specs.Acquirer.{slot_at, state_at_stage, state_in_role}
 use Rattle.iso_acquirer.specs.World.{World}
 use Rattle.iso_acquirer.specs.Agreed.{IsTransaction, IsRole, IsKnown, IsSound}
 use Rattle.iso_acquirer.specs.Agreement.{is_closed, is_state_approved, debit_amount, approved_total, IsSettled, BooksAgree}
-use Rattle.iso_acquirer.proofs.Keys.{some_is}
-use Rattle.iso_acquirer.proofs.Lists.{all-weaker}
 use Rattle.iso_acquirer.proofs.Numbered.{found}
 use Rattle.iso_acquirer.proofs.Made.{class_two}
 use Rattle.iso_acquirer.proofs.Clauses.{found_known, slot_of_order, kept_entry, debit_effect, approved_granted, declined-never, reversed-never}
-use Rattle.iso_acquirer.proofs.Sums.{sum-all, sum-none, all-map, all-slots, all-entries, slot_sum, at_slot, IsOwnIn, to-slots}
+use Rattle.iso_acquirer.proofs.Sums.{sum-none, all-map, all-slots, all-entries, slot_sum, at_slot, IsOwnIn, to-slots}
 
 -- what the acquirer's books count of an order
 abbrev approved_in : AccountNumber → Slot → ℕ

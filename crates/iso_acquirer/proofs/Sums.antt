@@ -2,23 +2,21 @@
 use Rattle.std.proofs.Common.{◌≡◌, ◌≢◌, ℕ, Bool, true, false, refl, arith, ap, sym, ◌∙◌, List, [], ◌∷◌, ◌+◌, cond}
 use Rattle.std.specs.Prelude.{◌||◌, ◌==◌, Option, Some, None, map, is_some, sum_by}
 use Rattle.std.specs.List.{AllByRecursion}
-use Rattle.std.proofs.lemmas.Grind.{common_steps}
 use Rattle.std.proofs.lemmas.List.Sums.{sum_by-cons}
 use Rattle.iso_order.specs.declared.key.TxKey.{TxKey}
 use Rattle.iso_order.specs.Key.{same_key}
 use Rattle.iso_order.specs.Order.{Instruction}
+use Rattle.iso_order.proofs.Lists.{some_is}
+use Rattle.iso_order.proofs.Same.{same_key_is, same_key_self}
+use Rattle.iso_order.proofs.Plain.{same_number, number_self, other_number, clash, unlike}
 use Rattle.iso_issuer.specs.declared.journal.Entry.{Entry}
 use Rattle.iso_issuer.specs.Journal.{entry_at, is_entered, HasDistinctKeys}
+use Rattle.iso_issuer.proofs.Entries.{entered-found}
 use Rattle.iso_acquirer.specs.declared.slot.Slot.{Slot}
 use Rattle.iso_acquirer.specs.Acquirer.{slot_at, order_at}
 use Rattle.iso_acquirer.specs.Room.{AreNumbered}
-use Rattle.iso_acquirer.proofs.Keys.{same_key_is, same_key_self, same_number, number_self, other_number, some_is}
 use Rattle.iso_acquirer.proofs.Numbered.{found}
 use Rattle.iso_acquirer.proofs.Clauses.{slot_of_order}
-
-pub sum-all : {X : Type 0} (f g : X → ℕ) (xs : List X) → AllByRecursion (λ x. f x ≡ g x) xs → sum_by f xs ≡ sum_by g xs
-sum-all f g [] all = refl
-sum-all f g (x ∷ xs) all = omega (arith, all.0, sum-all f g xs all.1, sum_by-cons f x xs, sum_by-cons g x xs)
 
 pub sum-none : {X : Type 0} (f : X → ℕ) (xs : List X) → AllByRecursion (λ x. f x ≡ 0) xs → sum_by f xs ≡ 0
 sum-none f [] all = refl
@@ -44,19 +42,6 @@ all-slots P (s ∷ ss) n h each = (
     later m t there =
         let place = found ss (n + 1) m t h.1 there in
         ap (λ b. cond b (Some s) (slot_at ss m)) (other_number s.order.key.stan m (λ e. omega (arith, h.0, place.1, e))) ∙ there
-
-clash : (b : Bool) → b ≡ true → b ≡ false → ⊥
-clash true h k = cc
-clash false h k = cc
-
--- a key is entered where it has an entry
-entered-found : (es : List Entry) (k : TxKey) → is_entered (map (λ e. e.order) es) k ≡ is_some (entry_at es k)
-entered-found [] k = refl
-entered-found (e ∷ es) k = by_test (same_key e.order.key k) (entered-found es k)
-  where
-    by_test : (b : Bool) → is_entered (map (λ e. e.order) es) k ≡ is_some (entry_at es k) → (b || is_entered (map (λ e. e.order) es) k) ≡ is_some (cond b (Some e) (entry_at es k))
-    by_test true known = refl
-    by_test false known = known
 
 -- what holds of each entry that is found holds of all, where keys are distinct
 pub all-entries : (P : Entry → Type 0) (es : List Entry) → HasDistinctKeys (map (λ e. e.order) es) → ((e : Entry) → entry_at es e.order.key ≡ Some e → P e) → AllByRecursion P es
@@ -89,9 +74,6 @@ other_key a b h = go (same_key a b) refl
     go : (t : Bool) → same_key a b ≡ t → t ≡ false
     go false e = refl
     go true e = absurd (h (ap (λ (k : TxKey). k.stan) (sym (same_key_is a b e))))
-
-unlike : (a b : ℕ) → (a == b) ≡ false → a ≢ b
-unlike a b h = λ e. grind (arith, common_steps, h, e)
 
 -- one slot of a sum
 picked : (g : Slot → ℕ) (slots : List Slot) (n : ℕ) (k : TxKey) (s : Slot) → AreNumbered n slots → slot_at slots k.stan ≡ Some s → s.order.key ≡ k →

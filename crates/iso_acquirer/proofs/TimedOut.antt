@@ -2,6 +2,8 @@
 use Rattle.std.proofs.Common.{◌≡◌, ℕ, Bool, true, false, refl, ap, sym, ◌∙◌, subst, List, [], ◌∷◌, ◌++◌, length, cond}
 use Rattle.std.specs.Prelude.{◌==◌, Option, Some, None, option_map, nat_lt, Result, Ok, Err}
 use Rattle.iso_order.specs.Order.{Instruction}
+use Rattle.iso_order.proofs.Lists.{some_is}
+use Rattle.iso_order.proofs.Plain.{none-some}
 use Rattle.iso_issuer.specs.declared.journal.Entry.{Entry}
 use Rattle.iso_acquirer.specs.declared.event.Given.{Given}
 use Rattle.iso_acquirer.specs.declared.fault.AcqFault.{AcqFault}
@@ -13,7 +15,6 @@ use Rattle.iso_acquirer.specs.declared.slot.Stage.{Stage}
 use Rattle.iso_acquirer.specs.declared.slot.Stage.TheVariants.{Waiting, Reversing, Approved, Declined, Reversed}
 use Rattle.iso_acquirer.specs.Acquirer.{slot_at, undo_of, reversal_under, slots_at_stage, timeout, timeout_of_slot, timeout_in_role, timeout_at_stage, next_reversal, slots_with_reversal}
 use Rattle.iso_acquirer.specs.Agreed.{IsAgreed}
-use Rattle.iso_acquirer.proofs.Keys.{some_is, none_is_not}
 use Rattle.iso_acquirer.proofs.Numbered.{found}
 use Rattle.iso_acquirer.proofs.Clauses.{same_stage, transaction_at}
 use Rattle.iso_acquirer.proofs.Changed.{order-changed, agreed-changed}
@@ -34,8 +35,8 @@ module _ (id : ℕ) (slots : List Slot) (sent : List Instruction) (given : List 
   again s n here role =
       agreed-sent id (slots_at_stage (λ _. Waiting 2) s.order.key.stan slots) sent given entries s.order
       (agreed-changed id slots sent given entries (λ _. Waiting 2) s.order.key.stan w
-      (λ x stage v there is undo. absurd (none_is_not v (ap (undo_of x.order) (same_stage (Waiting n) stage (sym role ∙ ap (λ (y : Slot). y.role) (some_is s x (sym here ∙ there)) ∙ is)) ∙ undo)))
-      (λ x stage there is h. tt) (λ x stage v there is undo. absurd (none_is_not v undo)))
+      (λ x stage v there is undo. absurd (none-some v (ap (undo_of x.order) (same_stage (Waiting n) stage (sym role ∙ ap (λ (y : Slot). y.role) (some_is s x (sym here ∙ there)) ∙ is)) ∙ undo)))
+      (λ x stage there is h. tt) (λ x stage v there is undo. absurd (none-some v undo)))
       (order-changed (λ _. Waiting 2) s.order.key.stan slots s.order.key.stan ∙ ap (option_map (λ (x : Slot). x.order)) here)
 
   asked-by : (s : Slot) (stage : Stage) → slot_at slots s.order.key.stan ≡ Some s → s.role ≡ Transaction stage → (r : Instruction × List Slot) → timeout_at_stage slots s.order stage ≡ Ok r → IsSent r

@@ -1,5 +1,5 @@
 -- What a host on a stream writes for its whole input.
-use Rattle.std.proofs.Common.{◌≡◌, List, [], ◌++◌, ap, subst, ◌∙◌}
+use Rattle.std.proofs.Common.{◌≡◌, List, ◌++◌, ap, subst, ◌∙◌}
 use Rattle.std.specs.Prelude.{ℕ, IfSome, Ok}
 use Rattle.std.specs.declared.option.Option.{Option}
 use Rattle.std.specs.Io.KnownBytes.{Appends}

@@ -1,22 +1,11 @@
 -- One frame more at the front of bytes.
-use Rattle.std.proofs.Common.{◌≡◌, ◌∙◌, ◌++◌, ℕ, ◌+◌, ◌-◌, ◌<◌, ◌≤◌, refl, sym, ap, subst, arith, List, [], ◌∷◌, length, drop, append_assoc, append-nil, length-append, lit<}
+use Rattle.std.proofs.Common.{◌≡◌, ◌∙◌, ◌++◌, ℕ, ◌+◌, ◌-◌, ◌<◌, ◌≤◌, refl, sym, ap, subst, arith, List, [], ◌∷◌, length, drop, length-append, lit<}
 use Rattle.std.proofs.Math.Seq.{drop-append_seam}
 use Rattle.iso_wire.specs.declared.header.Header.{Header}
 use Rattle.iso_wire.specs.declared.header.Header.TheVariants.{Binary2, Ascii4, Bcd2}
-use Rattle.iso_wire.specs.Framing.{largest, header_of, frame_of, frames_of, AllFit, Begins, NoFrame}
+use Rattle.iso_wire.specs.Framing.{header_of, frame_of, frames_of, AllFit, Begins, NoFrame}
+use Rattle.iso_wire.proofs.FrameSplits.{fit_more, frames_more}
 use Rattle.iso_compare.specs.Fronts.{IsFront}
-use Rattle.iso_compare.specs.declared.splitting.Front.{Front}
-
-frames_more : (h : Header) (bodies : List (List ℕ)) (body rest : List ℕ)
-    → frames_of h (bodies ++ body ∷ []) ++ rest ≡ frames_of h bodies ++ (frame_of h body ++ rest)
-frames_more h [] body rest = ap (λ (l : List ℕ). l ++ rest) (append-nil (frame_of h body))
-frames_more h (x ∷ xs) body rest =
-    append_assoc (frame_of h x) (frames_of h (xs ++ body ∷ [])) rest ∙ ap (λ (l : List ℕ). frame_of h x ++ l) (frames_more h xs body rest)
-    ∙ sym (append_assoc (frame_of h x) (frames_of h xs) (frame_of h body ++ rest))
-
-fit_more : (h : Header) (bodies : List (List ℕ)) (body : List ℕ) → AllFit h bodies → length body ≤ largest h → AllFit h (bodies ++ body ∷ [])
-fit_more h [] body f k = (k, tt)
-fit_more h (x ∷ xs) body f k = (f.0, fit_more h xs body f.1 k)
 
 -- the bytes are the frames of these bodies, and then others
 pub record BeginWith (h : Header) (bytes : List ℕ) (bodies : List (List ℕ)) (rest : List ℕ) : Type 0 where

@@ -1,6 +1,6 @@
 -- What is written comes back.
 use Rattle.std.proofs.Common.{◌≡◌, ◌∙◌, ℕ, ◌+◌, ◌^◌, ◌/◌, ◌%◌, ◌<◌, Bool, true, false, List, [], ◌∷◌, ◌++◌, length, take, drop, length-append, append_assoc, refl, sym, ap, arith, eq-eqb}
-use Rattle.std.specs.Prelude.{Option, Some, None, slice_index, ◌==◌, ◌&&◌, nat_le, bytes_eq, if◌then◌else◌, replicate}
+use Rattle.std.specs.Prelude.{Option, Some, None, slice_index, ◌==◌, bytes_eq, if◌then◌else◌}
 use Rattle.std.specs.List.{list_all}
 use Rattle.std.proofs.lemmas.List.{take_at, get_or-append-add, length-replicate}
 use Rattle.std.proofs.lemmas.List.Folds.{list_all-append}
@@ -8,6 +8,7 @@ use Rattle.std.proofs.lemmas.Bool.{and_from, and_parts}
 use Rattle.std.proofs.lemmas.Bool.Decides.{nat_tests}
 use Rattle.std.proofs.lemmas.Slice.Eq.{bytes_eq-Decides}
 use Rattle.iso_wire.specs.Decimal.{decimal}
+use Rattle.iso_wire.proofs.Decimals.{length-decimal}
 use Rattle.iso_log.specs.Slots.{is_nonzero, is_whole}
 use Rattle.iso_order.specs.declared.key.TxKey.{TxKey}
 use Rattle.iso_order.specs.Order.{Instruction, is_valid}
@@ -19,7 +20,7 @@ use Rattle.iso_restarts.specs.declared.note.Note.{Note}
 use Rattle.iso_restarts.specs.declared.note.Note.TheVariants.{Begun, TimedOut, Told}
 use Rattle.iso_diary.specs.declared.line.Line.{Line}
 use Rattle.iso_diary.specs.Line.{long_digits, answered_bytes, body, letter, tail, line_bytes, below, long_at, no_answer, begun_by, begun_in, timed_out_by, answered_by, answered_in, note_by, line_if_same, line_in, IsKey, IsNote, IsLine}
-use Rattle.iso_diary.proofs.Columns.{length-decimal, length-long, next, number_read, below_is, long_read}
+use Rattle.iso_diary.proofs.Columns.{length-long, next, number_read, below_is, long_read}
 
 -- ---- the row of an order without an answer
 

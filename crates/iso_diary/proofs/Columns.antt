@@ -1,55 +1,15 @@
 -- Columns of a record, one behind another.
-use Rattle.std.proofs.Common.{◌≡◌, ◌∙◌, ◌<◌, ◌≤◌, ℕ, zero, suc, ◌+◌, ◌-◌, ◌*◌, ◌/◌, ◌%◌, ◌^◌, Bool, true, false, List, [], ◌∷◌, ◌++◌, length, take, drop, length-append, append_assoc, refl, sym, ap, arith, le-leb}
-use Rattle.std.specs.Prelude.{Option, Some, None, nat_lt, if◌then◌else◌}
-use Rattle.std.specs.List.{list_all}
-use native.Mathlib.Numerals.{unary_clauses}
+use Rattle.std.proofs.Common.{◌≡◌, ◌∙◌, ◌<◌, ℕ, ◌+◌, ◌-◌, ◌*◌, ◌/◌, ◌%◌, ◌^◌, true, List, ◌++◌, length, take, drop, length-append, append_assoc, refl, sym, ap, arith}
+use Rattle.std.specs.Prelude.{Option, Some, nat_lt}
 use Rattle.std.proofs.lemmas.List.{take_at, drop_at, drop-drop}
-use Rattle.std.proofs.lemmas.Bool.{and_from}
 use Rattle.std.proofs.lemmas.Bool.Decides.{nat_tests}
-use Rattle.std.proofs.lemmas.List.Folds.{list_all-append}
-use Rattle.iso_parts.specs.Class.{is_digit}
-use Rattle.iso_wire.specs.Decimal.{decimal, number, number_after, number_in, are_digits}
+use Rattle.iso_wire.specs.Decimal.{decimal, number_in}
+use Rattle.iso_wire.proofs.Decimals.{length-decimal}
 use Rattle.iso_record.specs.Key.{number_at}
+use Rattle.iso_record.proofs.Pieces.{number_back}
 use Rattle.iso_diary.specs.Line.{below, long_at, long_by, long_digits}
 
 -- ---- digits
-
-number_after-push : (n : ℕ) (ds : List ℕ) (d : ℕ) → number_after n (ds ++ d ∷ []) ≡ 10 * number_after n ds + (d - 48)
-number_after-push n [] d = refl
-number_after-push n (c ∷ cs) d = number_after-push (10 * n + (c - 48)) cs d
-
-last_digit : (v : ℕ) → is_digit (48 + v % 10) ≡ true
-last_digit v = grind (arith, nat_tests)
-
-list_all-decimal : (n v : ℕ) → list_all is_digit (decimal n v) ≡ true
-list_all-decimal zero v = refl
-list_all-decimal (suc n) v =
-    let last = (48 + v % 10) ∷ [] in
-    list_all-append is_digit (decimal n (v / 10)) last ∙ and_from _ _ (list_all-decimal n (v / 10)) (and_from _ _ (last_digit v) refl)
-
-pub length-decimal : (n v : ℕ) → length (decimal n v) ≡ n
-length-decimal zero v = refl
-length-decimal (suc n) v =
-    let before = length-decimal n (v / 10) in
-    length-append (decimal n (v / 10)) ((48 + v % 10) ∷ []) ∙ omega arith
-
-power_next : (n : ℕ) → 10 ^ suc n ≡ 10 ^ n * 10
-power_next n = simp unary_clauses refl
-
-pub number-decimal : (n v : ℕ) → v < 10 ^ n → number (decimal n v) ≡ v
-number-decimal zero v lt = omega arith
-number-decimal (suc n) v lt =
-    let next = power_next n in
-    let front : number (decimal n (v / 10)) ≡ v / 10 = number-decimal n (v / 10) (omega arith) in
-    number_after-push 0 (decimal n (v / 10)) (48 + v % 10) ∙ omega (arith, front)
-
-are_digits-decimal : (n v : ℕ) → are_digits n n (decimal n v) ≡ true
-are_digits-decimal n v =
-    let size = length-decimal n v in
-    and_from _ _ (and_from _ _ (le-leb n (length (decimal n v)) (omega arith)) (le-leb (length (decimal n v)) n (omega arith))) (list_all-decimal n v)
-
-number_back : (n v : ℕ) → v < 10 ^ n → number_in n n (decimal n v) ≡ Some v
-number_back n v lt = rw (are_digits-decimal n v) (ap Some (number-decimal n v lt))
 
 pub length-long : (v : ℕ) → length (long_digits v) ≡ 20
 length-long v = length-append (decimal 10 (v / 10 ^ 10)) (decimal 10 (v % 10 ^ 10)) ∙ omega (arith, length-decimal 10 (v / 10 ^ 10), length-decimal 10 (v % 10 ^ 10))

@@ -1,19 +1,19 @@
 -- The first record of a diary.
-use Rattle.std.proofs.Common.{◌≡◌, ◌∙◌, ℕ, ◌+◌, ◌^◌, ◌<◌, Bool, true, false, List, [], ◌∷◌, ◌++◌, length, take, drop, length-append, append_assoc, refl, sym, ap, arith, eq-eqb}
-use Rattle.std.specs.Prelude.{◌==◌, ◌&&◌, not, codes, bytes_eq, if◌then◌else◌, Option, Some, None}
-use Rattle.std.proofs.lemmas.Bool.Decides.{nat_tests}
+use Rattle.std.proofs.Common.{◌≡◌, ◌∙◌, ℕ, ◌+◌, Bool, true, false, List, [], ◌∷◌, ◌++◌, length, take, drop, length-append, append_assoc, refl, sym, ap, arith, eq-eqb}
+use Rattle.std.specs.Prelude.{◌==◌, not, bytes_eq, if◌then◌else◌, Some}
 use Rattle.std.proofs.lemmas.Slice.Eq.{bytes_eq-Decides}
 use Rattle.std.specs.List.{list_all}
-use Rattle.std.proofs.lemmas.List.{take_at, drop_at, length-replicate}
+use Rattle.std.proofs.lemmas.List.{take_at, drop_at}
 use Rattle.std.proofs.lemmas.Bool.{and_from}
-use Rattle.iso_wire.specs.Decimal.{decimal, number}
+use Rattle.iso_wire.specs.Decimal.{decimal}
+use Rattle.iso_wire.proofs.Decimals.{length-decimal}
 use Rattle.iso_log.specs.Slots.{is_nonzero, is_whole}
 use Rattle.iso_record.specs.Row.{blanks, part}
-use Rattle.iso_record.proofs.Back.{nonzero_digits, nonzero_blanks, nonzero_both}
+use Rattle.iso_record.proofs.Back.{nonzero_digits, nonzero_both}
+use Rattle.iso_record.proofs.Headings.{front, numbers, same_rules}
 use Rattle.iso_diary.specs.declared.heading.Heading.{Heading as Head}
-use Rattle.iso_diary.specs.declared.heading.HeadingFault.TheVariants.{Format, Rules, Acquirer}
+use Rattle.iso_diary.specs.declared.heading.HeadingFault.TheVariants.{Rules, Acquirer}
 use Rattle.iso_diary.specs.Heading.{magic, heading_bytes, heading_fault, IsHeading}
-use Rattle.iso_diary.proofs.Columns.{length-decimal, number-decimal}
 
 length-magic : length magic ≡ 24
 unfolding magic
@@ -35,15 +35,6 @@ heading_whole h =
     length-append magic (v ++ (r ++ (a ++ e)))
     ∙ omega (arith, length-magic, length-append v (r ++ (a ++ e)), length-append r (a ++ e), length-append a e, length-decimal 4 1, length-decimal 5 h.rules, length-decimal 11 h.acquirer) in
     and_from _ _ (eq-eqb (length (magic ++ (v ++ (r ++ (a ++ e))))) 128 long) n
-
--- fronts of one length, and what is behind them
-front : (n : ℕ) (xs ys us vs : List ℕ) → length xs ≡ n → length ys ≡ n → xs ++ us ≡ ys ++ vs → (xs ≡ ys) × (us ≡ vs)
-front n xs ys us vs lx ly e = (sym (take_at xs us n lx) ∙ ap (take n) e ∙ take_at ys vs n ly, sym (drop_at xs us n lx) ∙ ap (drop n) e ∙ drop_at ys vs n ly)
-
-numbers : (n v w : ℕ) (us vs : List ℕ) → v < 10 ^ n → w < 10 ^ n → decimal n v ++ us ≡ decimal n w ++ vs → (v ≡ w) × (us ≡ vs)
-numbers n v w us vs lv lw e =
-    let both = front n (decimal n v) (decimal n w) us vs (length-decimal n v) (length-decimal n w) e in
-    (sym (number-decimal n v lv) ∙ ap number both.0 ∙ number-decimal n w lw, both.1)
 
 abbrev same_heading : ℕ → ℕ → Head
 same_heading r a = record { rules = r; acquirer = a }
@@ -83,18 +74,6 @@ same_format h = format_part magic (decimal 4 1) (decimal 5 h.rules) _ length-mag
 rules_of : (h : Head) → part (heading_bytes h) 28 5 ≡ decimal 5 h.rules
 unfolding heading_bytes
 rules_of h = rules_part magic (decimal 4 1) (decimal 5 h.rules) _ length-magic (length-decimal 4 1) (length-decimal 5 h.rules)
-
-same_rules : (m n : ℕ) → m < 10 ^ 5 → n < 10 ^ 5 → bytes_eq (decimal 5 m) (decimal 5 n) ≡ (m == n)
-same_rules m n lm ln = by_test (m == n) refl
-  where
-    by_test : (t : Bool) → (m == n) ≡ t → bytes_eq (decimal 5 m) (decimal 5 n) ≡ t
-    by_test true e = (bytes_eq-Decides (decimal 5 m) (decimal 5 n)).1 (ap (decimal 5) (grind (arith, nat_tests, e)))
-    by_test false e =
-        not_true (bytes_eq (decimal 5 m) (decimal 5 n)) (λ same.
-        false_true (sym e ∙ eq-eqb m n (sym (number-decimal 5 m lm) ∙ ap number ((bytes_eq-Decides (decimal 5 m) (decimal 5 n)).0 same) ∙ number-decimal 5 n ln)))
-      where
-        false_true : false ≡ true → ⊥
-        false_true h = cc
 
 either : (t : Bool) → (if not t then Some Rules else Some Acquirer) ≡ (if t then Some Acquirer else Some Rules)
 either true = refl

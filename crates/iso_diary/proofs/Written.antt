@@ -1,6 +1,6 @@
 -- What the writing functions leave in front.
 use Rattle.std.proofs.Common.{◌≡◌, ◌∙◌, ◌≤◌, ℕ, ◌+◌, ◌/◌, ◌%◌, ◌^◌, List, [], ◌∷◌, ◌++◌, length, take, append_assoc, refl, sym, ap, arith}
-use Rattle.std.proofs.lemmas.List.{take-replicate, take_at, length-replicate}
+use Rattle.std.proofs.lemmas.List.{take-replicate, length-replicate}
 use Rattle.iso_wire.specs.Decimal.{decimal}
 use Rattle.iso_order.specs.declared.key.TxKey.{TxKey}
 use Rattle.iso_record.specs.Row.{blanks}

@@ -1,7 +1,5 @@
-pub mod Fronts
 pub mod Heading
 pub mod Kept
 pub mod Line
 pub mod Notes
-pub mod Pieces
 pub mod Why

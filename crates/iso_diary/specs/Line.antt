@@ -8,7 +8,7 @@
 -- 100  20  the place in the diary
 -- 120   7  blanks
 -- 127   1  the end of the line
-use Rattle.std.specs.Prelude.{◌≡◌, ℕ, ◌+◌, ◌*◌, ◌/◌, ◌%◌, ◌^◌, ◌<◌, ◌==◌, nat_lt, Bool, true, false, List, [], ◌∷◌, ◌++◌, take, slice_index, bytes_eq, Option, Some, None, if◌then◌else◌}
+use Rattle.std.specs.Prelude.{◌≡◌, ℕ, ◌+◌, ◌*◌, ◌/◌, ◌%◌, ◌^◌, ◌<◌, ◌==◌, nat_lt, true, List, [], ◌∷◌, ◌++◌, take, slice_index, bytes_eq, Option, Some, None, if◌then◌else◌}
 use Rattle.iso_wire.specs.Decimal.{decimal}
 use Rattle.iso_log.specs.Slots.{is_whole}
 use Rattle.iso_order.specs.declared.key.TxKey.{TxKey}

@@ -1,8 +1,7 @@
 -- The notes of a file of records.
-use Rattle.std.specs.Prelude.{◌≡◌, ◌≤◌, ℕ, Bool, List, map, take, drop, Option, Some, None}
+use Rattle.std.specs.Prelude.{◌≡◌, ℕ, List, map, take, drop, Option, Some, None}
 use Rattle.iso_log.specs.declared.log.RecordLog.{RecordLog}
 use Rattle.iso_log.specs.Slots.{records_of}
-use Rattle.iso_log.specs.Log.{IsLog}
 use Rattle.iso_restarts.specs.declared.note.Note.{Note}
 use Rattle.iso_restarts.specs.declared.note.Note.TheVariants.{TimedOut}
 use Rattle.iso_diary.specs.declared.line.Line.{Line}
@@ -46,9 +45,3 @@ module _ {D : Type 0} (seen : D → List ℕ) (log : RecordLog D) where
 abbrev pub LeavesNotes : {D : Type 0} → (D → List ℕ → Type 0) → RecordLog D → List Note → Type 0
 LeavesNotes may_leave log notes = (c : List ℕ) × may_leave log.disk c
     × (notes ≡ diary_notes (records_of c))
-
--- a log of records, whose heading is synced
-pub record IsReady {D : Type 0} (seen : D → List ℕ) (may_leave : D → List ℕ → Type 0)
-    (is_usable : D → Bool) (log : RecordLog D) : Type 0 where
-  pub log_is : IsLog seen may_leave is_usable log
-  pub headed : 1 ≤ log.synced

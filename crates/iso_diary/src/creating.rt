@@ -1,6 +1,7 @@
 //! A new diary.
 ghost use Rattle.std.specs.Prelude.{◌≡◌, [], IfOk, IsTrue};
-ghost use Rattle.iso_diary.specs.Notes.{IsReady, synced_notes, pending_notes};
+ghost use Rattle.iso_log.specs.Headed.{IsReady};
+ghost use Rattle.iso_diary.specs.Notes.{synced_notes, pending_notes};
 
 use crate::diary::DiaryLog;
 use crate::heading::{Heading, heading_bytes};

@@ -1,10 +1,11 @@
 //! A file of records as a log of notes.
 ghost use Rattle.std.specs.Prelude.{◌≡◌, ◌<◌, ◌≤◌, ◌^◌, ◌+◌, ◌-◌, ◌++◌, ◌∷◌, [], List, take, drop, OnOk};
+ghost use Rattle.iso_log.specs.Headed.{IsReady};
 ghost use Rattle.iso_log.specs.Slots.{records_of};
 ghost use Rattle.iso_restarts.specs.Front.{LeavesFront};
 ghost use Rattle.iso_diary.specs.Line.{line_bytes};
-ghost use Rattle.iso_diary.specs.Notes.{IsReady, synced_notes, pending_notes, LeavesNotes};
-ghost use Rattle.iso_diary.specs.Fronts.{ready_leaves};
+ghost use Rattle.iso_diary.specs.Notes.{note_of, synced_notes, pending_notes, LeavesNotes};
+ghost use Rattle.iso_log.proofs.Fronts.{ready_leaves};
 
 use crate::laws::lines_come_back;
 use crate::line::Line;
@@ -134,5 +135,5 @@ impl<D: Disk + Drop> NoteLog for DiaryLog<D> {
         }
     }
 
-    ghost leaves_front = { λ l is notes left. ready_leaves l.log is notes left };
+    ghost leaves_front = { λ l is notes left. ready_leaves note_of l.log is notes left };
 }

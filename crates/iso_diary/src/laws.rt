@@ -1,9 +1,10 @@
 //! What holds of every record, and over a crash: functions that do no more than others, and whose contracts are laws.
 ghost use Rattle.std.specs.Prelude.{IfOk, IsTrue};
 ghost use Rattle.sqlite_disk.specs.Disk.{Only};
+ghost use Rattle.iso_log.specs.Headed.{IsReady};
 ghost use Rattle.iso_restarts.specs.Diary.{MayLeave};
 ghost use Rattle.iso_restarts.specs.Durable.{IsConsistent, diary_of};
-ghost use Rattle.iso_diary.specs.Notes.{IsReady, synced_notes, pending_notes};
+ghost use Rattle.iso_diary.specs.Notes.{synced_notes, pending_notes};
 ghost use Rattle.iso_diary.specs.Line.{LinesComeBack, LinesAreWhole, NothingElse};
 ghost use Rattle.iso_diary.specs.Heading.{HeadingsAreWhole, HeadingsDiffer, HeadingsAreToldApart};
 

@@ -1,10 +1,11 @@
 //! Opening a diary.
 ghost use Rattle.std.specs.Prelude.{◌≡◌, ◌≤◌, ◌<◌, ◌*◌, ◌^◌, [], ℕ, List, length, true, IfOk, OnOk, IfErr, IsTrue};
 ghost use Rattle.sqlite_disk.specs.Disk.{Only};
+ghost use Rattle.iso_log.specs.Headed.{IsReady};
 ghost use Rattle.iso_log.specs.Slots.{records_of};
 ghost use Rattle.iso_restarts.specs.Durable.{IsOpened};
 ghost use Rattle.iso_diary.specs.Heading.{heading_bytes};
-ghost use Rattle.iso_diary.specs.Notes.{diary_notes, IsReady, synced_notes, pending_notes};
+ghost use Rattle.iso_diary.specs.Notes.{diary_notes, synced_notes, pending_notes};
 ghost use Rattle.iso_diary.specs.Kept.{AreNotes};
 ghost use Rattle.iso_diary.specs.Why.{IsWhy, IsOther};
 

@@ -1,9 +1,8 @@
 //! The notes of a diary's records.
 ghost use Rattle.std.specs.Prelude.{◌≡◌, ◌≤◌, ◌<◌, ◌+◌, ◌*◌, ◌/◌, ◌++◌, ◌∷◌, ◌^◌, [], ℕ, List, length, true, false, IfOk, OnOk, IfErr, IsTrue};
-ghost use Rattle.iso_log.specs.Slots.{slot, records_of};
+ghost use Rattle.iso_log.specs.Slots.{slot, records_of, slots_from};
 ghost use Rattle.iso_log.specs.Log.{IsFile};
 ghost use Rattle.iso_diary.specs.Notes.{note_of, notes_of, diary_notes};
-ghost use Rattle.iso_diary.specs.Pieces.{slots_from};
 ghost use Rattle.iso_diary.specs.Kept.{IsLineAt, AreLines, AreNotes};
 ghost use Rattle.iso_diary.specs.Why.{IsPlain, IsScanFault};
 

@@ -1,8 +1,10 @@
 -- What an answer comes to.
-use Rattle.std.proofs.Common.{◌≡◌, ◌≢◌, ℕ, Bool, true, false, refl, arith, ap, sym, ◌∙◌, List, ◌<◌, ◌≤◌, ◌+◌, ◌-◌, cond, inl, inr, subst}
-use Rattle.std.specs.Prelude.{◌==◌, ◌||◌, ◌⊎◌, not, Option, Some, None, option_map, slice_set}
+use Rattle.std.proofs.Common.{◌≡◌, ℕ, Bool, true, false, refl, arith, ap, sym, ◌∙◌, List, ◌-◌, cond, inl, inr, subst}
+use Rattle.std.specs.Prelude.{◌==◌, ◌||◌, not, Option, Some, None, option_map}
 use Rattle.iso_order.specs.declared.key.TxKey.{TxKey}
 use Rattle.iso_order.specs.Key.{same_key}
+use Rattle.iso_order.proofs.Lists.{some_is}
+use Rattle.iso_order.proofs.Plain.{same_number, unlike, clash}
 use Rattle.iso_acquirer.specs.declared.slot.Slot.{Slot}
 use Rattle.iso_acquirer.specs.declared.slot.Role.{Role as Part}
 use Rattle.iso_acquirer.specs.declared.slot.Role.TheVariants.{Transaction, Reversal}
@@ -12,14 +14,14 @@ use Rattle.iso_acquirer.specs.declared.state.State.{State}
 use Rattle.iso_acquirer.specs.declared.state.State.TheVariants.{Waiting, Reversing, Approved, Declined, Reversed}
 use Rattle.iso_acquirer.specs.Acquirer.{slot_at, state_of, state_in_role, state_at_stage, on_stage, slot_at_stage, slots_at_stage, stage_after, stage_after_undo, slots_after_answer, slots_after_answer_of_slot, slots_after_answer_in_role}
 use Rattle.iso_acquirer.specs.Agreement.{is_closed}
+use Rattle.iso_acquirer.proofs.Numbered.{unchanged}
 use Rattle.iso_drive.specs.declared.made.Made.{Made}
-use Rattle.iso_drive.specs.declared.made.Role.{Role}
 use Rattle.iso_drive.specs.declared.made.Role.TheVariants.{Payment, Reversal as Undone}
 use Rattle.iso_drive.specs.Answered.{has_key, is_made, Closes, ChangesNothing, ComesTo}
 use Rattle.iso_drive.specs.Made.{made_of, role_of, AreInRow, own_end, undo_end, undo_end_in, undo_end_at, told_by, IsTabled}
 use Rattle.iso_drive.specs.Open.{is_open, is_open_at}
-use Rattle.iso_drive.proofs.Plain.{same_number, unlike, some_is, clash, set-same}
-use Rattle.iso_drive.proofs.Row.{placed, written, found, unchanged}
+use Rattle.iso_drive.proofs.Plain.{set-same}
+use Rattle.iso_drive.proofs.Row.{placed, written, found}
 use Rattle.iso_drive.proofs.Opened.{state-found, state-other, state-same, state-none, answer-shape}
 
 -- ---- an answer that closes a transaction changes its stage

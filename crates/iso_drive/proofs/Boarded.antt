@@ -1,26 +1,26 @@
 -- What a driver has of its acquirer, where that changes.
-use Rattle.std.proofs.Common.{◌≡◌, ℕ, Bool, true, false, refl, arith, ap, sym, ◌∙◌, subst, List, [], ◌∷◌, ◌++◌, length, take, drop, ◌<◌, ◌≤◌, ◌+◌, cond}
+use Rattle.std.proofs.Common.{◌≡◌, ℕ, Bool, true, false, refl, arith, ap, sym, ◌∙◌, subst, List, [], ◌∷◌, ◌++◌, length, ◌<◌, ◌+◌, cond}
 use Rattle.std.specs.Prelude.{◌==◌, ◌||◌}
 use Rattle.iso_order.specs.declared.key.TxKey.{TxKey}
 use Rattle.iso_order.specs.Order.{Instruction}
+use Rattle.iso_order.proofs.Plain.{same_number}
 use Rattle.iso_acquirer.specs.declared.slot.Slot.{Slot}
 use Rattle.iso_acquirer.specs.declared.state.State.{State}
 use Rattle.iso_acquirer.specs.Acquirer.{slot_at, slots_with, transaction_of, timeout, slots_after_answer}
 use Rattle.iso_restarts.specs.Diary.{slots_asked}
 use Rattle.iso_drive.specs.declared.board.Board.{Board}
-use Rattle.iso_drive.specs.declared.due.Due.{Due}
+use Rattle.iso_waits.specs.declared.due.Due.{Due}
 use Rattle.iso_drive.specs.declared.made.Made.{Made}
 use Rattle.iso_drive.specs.Answered.{Closes}
-use Rattle.iso_drive.specs.Board.{IsBoard}
-use Rattle.iso_drive.specs.Due.{again, without, IsAwaited}
+use Rattle.iso_drive.specs.Board.{IsBoard, IsAwaited}
+use Rattle.iso_waits.specs.Waits.{without}
 use Rattle.iso_drive.specs.Made.{made_of, IsTabled, AreInRow}
 use Rattle.iso_drive.specs.Open.{is_open, is_open_at}
-use Rattle.iso_drive.proofs.Plain.{same_number}
 use Rattle.iso_drive.proofs.Row.{above}
 use Rattle.iso_drive.proofs.Tabled.{tabled-push}
 use Rattle.iso_drive.proofs.Opened.{open-begun, open-asked, state-none}
 use Rattle.iso_drive.proofs.Answer.{open-closed}
-use Rattle.iso_drive.proofs.Waits.{times, times-push, times-put-off, times-without}
+use Rattle.iso_waits.proofs.Waits.{times, times-push, times-without}
 
 -- a purchase begins
 awaited-begun : (waiting : List Due) (slots : List Slot) (o : Instruction) (at n : ℕ) → IsAwaited waiting slots → AreInRow 1 slots → o.key.stan ≡ length slots + 1 →

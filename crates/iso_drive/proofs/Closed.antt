@@ -1,15 +1,15 @@
 -- All transactions are closed where none waits.
-use Rattle.std.proofs.Common.{◌≡◌, ℕ, Bool, true, false, refl, arith, ap, sym, ◌∙◌, List, [], ◌∷◌, ◌≤◌, cond}
+use Rattle.std.proofs.Common.{◌≡◌, ℕ, Bool, true, false, refl, arith, ap, ◌∙◌, List, [], ◌∷◌, cond}
 use Rattle.std.specs.Prelude.{not, Option, Some, None}
+use Rattle.iso_order.proofs.Plain.{clash}
 use Rattle.iso_acquirer.specs.declared.slot.Slot.{Slot}
 use Rattle.iso_acquirer.specs.declared.state.State.{State}
 use Rattle.iso_acquirer.specs.Acquirer.{state_of}
 use Rattle.iso_acquirer.specs.Agreement.{is_closed}
-use Rattle.iso_drive.specs.declared.due.Due.{Due}
-use Rattle.iso_drive.specs.Due.{IsAwaited}
+use Rattle.iso_waits.specs.declared.due.Due.{Due}
 use Rattle.iso_drive.specs.Open.{is_open, is_open_at, AreAllClosed}
-use Rattle.iso_drive.proofs.Plain.{clash}
-use Rattle.iso_drive.proofs.Waits.{times, none-waits, first-waits}
+use Rattle.iso_drive.specs.Board.{IsAwaited}
+use Rattle.iso_waits.proofs.Waits.{none-waits, first-waits}
 
 pub none-open : (waiting : List Due) (slots : List Slot) → IsAwaited waiting slots → waiting ≡ [] → AreAllClosed slots
 none-open waiting slots a none stan state h = go (is_closed state) refl

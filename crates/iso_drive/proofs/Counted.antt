@@ -1,6 +1,6 @@
 -- Counts and sums over the acquirer's orders as the driver has them.
-use Rattle.std.proofs.Common.{◌≡◌, ℕ, Bool, true, false, refl, arith, ap, sym, ◌∙◌, List, [], ◌∷◌, cond}
-use Rattle.std.specs.Prelude.{count_by, sum_by, map, Some, None}
+use Rattle.std.proofs.Common.{◌≡◌, ℕ, Bool, refl, arith, ap, ◌∙◌, List, [], ◌∷◌, cond}
+use Rattle.std.specs.Prelude.{count_by, sum_by, map}
 use Rattle.std.proofs.lemmas.List.Sums.{sum_by-cons}
 use Rattle.iso_order.specs.declared.act.Act.{Act}
 use Rattle.iso_order.specs.declared.act.Act.TheVariants.{Debit, Credit, Inquiry, Undo, Complete}
@@ -10,7 +10,7 @@ use Rattle.iso_acquirer.specs.declared.slot.Role.{Role as Part}
 use Rattle.iso_acquirer.specs.declared.slot.Role.TheVariants.{Transaction, Reversal}
 use Rattle.iso_acquirer.specs.declared.slot.Stage.TheVariants as phase
 use Rattle.iso_acquirer.specs.declared.state.State.{State}
-use Rattle.iso_acquirer.specs.Acquirer.{state_in_role, state_at_stage}
+use Rattle.iso_acquirer.specs.Acquirer.{state_in_role}
 use Rattle.iso_acquirer.specs.Agreement.{approved_total, debit_amount, is_state_approved}
 use Rattle.iso_drive.specs.declared.made.Made.{Made}
 use Rattle.iso_drive.specs.Books.{spent_by, taken_by}

@@ -1,6 +1,6 @@
 -- The transactions to look at, as the driver has them.
-use Rattle.std.proofs.Common.{◌≡◌, ℕ, Bool, true, false, refl, ap, ◌∙◌, List, [], ◌∷◌, cond}
-use Rattle.std.specs.Prelude.{◌&&◌, map, filter, Some, None}
+use Rattle.std.proofs.Common.{◌≡◌, Bool, true, false, refl, ap, ◌∙◌, List, [], ◌∷◌, cond}
+use Rattle.std.specs.Prelude.{◌&&◌, map, filter}
 use Rattle.iso_order.specs.declared.act.Act.{Act}
 use Rattle.iso_order.specs.declared.act.Act.TheVariants.{Debit, Credit, Inquiry, Undo, Complete}
 use Rattle.iso_order.specs.Pan.{AccountNumber}

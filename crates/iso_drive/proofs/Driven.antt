@@ -1,6 +1,6 @@
 -- A driver goes on: what holds of it holds after each call.
 use Rattle.std.proofs.Common.{◌≡◌, ℕ, true, ap, sym, ◌∙◌, subst, List, [], ◌∷◌, ◌++◌, length, take, drop, ◌<◌, ◌≤◌, ◌+◌, arith}
-use Rattle.std.specs.Prelude.{nat_lt, min}
+use Rattle.std.specs.Prelude.{nat_lt}
 use Rattle.std.proofs.lemmas.Grind.{common_steps}
 use Rattle.iso_order.specs.declared.key.TxKey.{TxKey}
 use Rattle.iso_order.specs.Order.{Instruction}
@@ -13,16 +13,16 @@ use Rattle.iso_restarts.specs.Diary.{Diary, in_memory, begins, times_out, hears,
 use Rattle.iso_restarts.specs.Durable.{diary_of, IsConsistent}
 use Rattle.iso_drive.specs.declared.driver.Driver.{Driver}
 use Rattle.iso_drive.specs.declared.board.Board.{Board}
-use Rattle.iso_drive.specs.declared.due.Due.{Due}
+use Rattle.iso_waits.specs.declared.due.Due.{Due}
 use Rattle.iso_drive.specs.Answered.{Closes}
 use Rattle.iso_drive.specs.Board.{IsBoard}
-use Rattle.iso_drive.specs.Due.{moment_after, again, without, AreInTime}
-use Rattle.iso_drive.specs.Driving.{IsDriving, driving_of, slots_in}
+use Rattle.iso_waits.specs.Waits.{moment_after, again, without, AreInTime}
+use Rattle.iso_drive.specs.Driving.{IsDriving}
 use Rattle.iso_drive.specs.Made.{made_of, IsTabled}
-use Rattle.iso_drive.proofs.Boarded.{board-begun, board-asked, board-closed}
+use Rattle.iso_drive.proofs.Boarded.{board-begun, board-asked}
 use Rattle.iso_drive.proofs.Notes.{slots-wrote, slots-begun, slots-timed-out, slots-kept, id-begun, id-timed-out}
 use Rattle.iso_drive.proofs.Tabled.{made-length}
-use Rattle.iso_drive.proofs.Waits.{times, times-put-off, in-time-later, in-time-push, in-time-put-off, in-time-without}
+use Rattle.iso_waits.proofs.Waits.{times, times-put-off, in-time-later, in-time-push, in-time-put-off, in-time-without}
 
 less : (n m : ℕ) → n < m → nat_lt n m ≡ true
 less n m h = grind (arith, common_steps)

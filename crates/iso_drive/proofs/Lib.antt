@@ -9,5 +9,4 @@ pub mod Opened
 pub mod Plain
 pub mod Row
 pub mod Tabled
-pub mod Waits
 pub mod Woken

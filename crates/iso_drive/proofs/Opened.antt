@@ -1,23 +1,22 @@
 -- Which transactions are open, where what the acquirer holds changes.
-use Rattle.std.proofs.Common.{◌≡◌, ◌≢◌, ℕ, Bool, true, false, refl, arith, ap, sym, ◌∙◌, List, [], ◌∷◌, ◌++◌, length, ◌<◌, ◌≤◌, ◌+◌, cond, inl, inr, subst}
+use Rattle.std.proofs.Common.{◌≡◌, ◌≢◌, ℕ, Bool, true, false, refl, arith, ap, sym, ◌∙◌, List, [], ◌∷◌, ◌++◌, length, ◌+◌, cond, inl, inr}
 use Rattle.std.specs.Prelude.{◌==◌, ◌||◌, ◌⊎◌, not, Option, Some, None, option_and_then, nat_lt}
 use Rattle.std.specs.Option.{option_or}
 use Rattle.iso_order.specs.declared.key.TxKey.{TxKey}
 use Rattle.iso_order.specs.Key.{same_key}
 use Rattle.iso_order.specs.Order.{Instruction}
+use Rattle.iso_order.proofs.Plain.{same_number, unlike}
 use Rattle.iso_acquirer.specs.declared.slot.Slot.{Slot}
 use Rattle.iso_acquirer.specs.declared.slot.Role.{Role as Part}
 use Rattle.iso_acquirer.specs.declared.slot.Role.TheVariants.{Transaction, Reversal}
 use Rattle.iso_acquirer.specs.declared.slot.Stage.{Stage}
 use Rattle.iso_acquirer.specs.declared.slot.Stage.TheVariants as phase
-use Rattle.iso_acquirer.specs.declared.state.State.{State}
-use Rattle.iso_acquirer.specs.Acquirer.{slot_at, state_of, state_in_role, state_at_stage, on_stage, slot_at_stage, slots_at_stage, slots_with, transaction_of, timeout, timeout_of_slot, timeout_in_role, timeout_at_stage, next_reversal, slots_with_reversal, reversal_for, stage_after, stage_after_undo, slots_after_answer, slots_after_answer_of_slot, slots_after_answer_in_role}
+use Rattle.iso_acquirer.specs.Acquirer.{slot_at, state_of, state_in_role, state_at_stage, on_stage, slots_at_stage, slots_with, transaction_of, timeout, timeout_in_role, timeout_at_stage, next_reversal, reversal_for, stage_after, stage_after_undo, slots_after_answer, slots_after_answer_of_slot, slots_after_answer_in_role}
 use Rattle.iso_acquirer.specs.Agreement.{is_closed}
 use Rattle.iso_restarts.specs.Diary.{slots_asked}
 use Rattle.iso_drive.specs.Open.{is_open, is_open_at}
 use Rattle.iso_drive.specs.Made.{AreInRow}
-use Rattle.iso_drive.proofs.Plain.{same_number, number_self, other_number, unlike, some_is, clash}
-use Rattle.iso_drive.proofs.Row.{above, found, length-changed, row-changed, row-push, slot-other, slot-same, slot-more}
+use Rattle.iso_drive.proofs.Row.{found, slot-other, slot-same, slot-more}
 
 -- ---- states after a change
 

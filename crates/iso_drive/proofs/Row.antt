@@ -1,13 +1,15 @@
 -- What is kept under trace numbers in a row.
 use Rattle.std.proofs.Common.{◌≡◌, ◌≢◌, ℕ, zero, suc, Bool, true, false, refl, arith, ap, sym, ◌∙◌, List, [], ◌∷◌, ◌++◌, length, ◌<◌, ◌≤◌, ◌+◌, cond, slice_set}
-use Rattle.std.specs.Prelude.{◌==◌, Option, Some, None, slice_get}
+use Rattle.std.specs.Prelude.{◌==◌, Some, None, slice_get}
 use Rattle.std.specs.Option.{option_or}
 use Rattle.std.proofs.lemmas.List.Folds.{find-append}
+use Rattle.iso_order.proofs.Lists.{some_is}
+use Rattle.iso_order.proofs.Plain.{same_number, number_self, other_number}
 use Rattle.iso_acquirer.specs.declared.slot.Slot.{Slot}
 use Rattle.iso_acquirer.specs.declared.slot.Stage.{Stage}
 use Rattle.iso_acquirer.specs.Acquirer.{slot_at, slots_at_stage, slot_at_stage}
+use Rattle.iso_acquirer.proofs.Numbered.{unchanged}
 use Rattle.iso_drive.specs.Made.{AreInRow}
-use Rattle.iso_drive.proofs.Plain.{same_number, number_self, other_number, some_is}
 
 -- below the first number there is nothing
 pub below : (slots : List Slot) (n m : ℕ) → AreInRow n slots → m < n → slot_at slots m ≡ None
@@ -32,15 +34,6 @@ above [] n m h more = refl
 above (s ∷ ss) n m h more =
     let apart : (s.order.key.stan == m) ≡ false = other_number s.order.key.stan m (λ e. omega (arith, h.0, e)) in
     ap (λ b. cond b (Some s) (slot_at ss m)) apart ∙ above ss (n + 1) m h.1 (omega arith)
-
--- a change of what isn't there
-pub unchanged : (step : Stage → Stage) (slots : List Slot) (m : ℕ) → slot_at slots m ≡ None → slots_at_stage step m slots ≡ slots
-unchanged step [] m h = refl
-unchanged step (s ∷ ss) m h = by_test (s.order.key.stan == m) h (unchanged step ss m)
-  where
-    by_test : (b : Bool) → cond b (Some s) (slot_at ss m) ≡ None → (slot_at ss m ≡ None → slots_at_stage step m ss ≡ ss) → cond b (slot_at_stage step s) s ∷ slots_at_stage step m ss ≡ s ∷ ss
-    by_test true e rest = cc
-    by_test false e rest = ap (λ xs. s ∷ xs) (rest e)
 
 -- to write at the place of a trace number is to change what is kept there
 pub written : (step : Stage → Stage) (slots : List Slot) (n i m : ℕ) (s x : Slot) → AreInRow n slots → m ≡ n + i → slot_at slots m ≡ Some s → slot_at_stage step s ≡ x →
@@ -71,10 +64,6 @@ row-changed step m (s ∷ ss) n h = (by_test (s.order.key.stan == m), row-change
 pub row-push : (slots : List Slot) (s : Slot) (n : ℕ) → AreInRow n slots → s.order.key.stan ≡ n + length slots → AreInRow n (slots ++ s ∷ [])
 row-push [] s n h is = (omega (arith, is), tt)
 row-push (x ∷ xs) s n h is = (h.0, row-push xs s (n + 1) h.1 (omega (arith, is)))
-
-pub length-changed : (step : Stage → Stage) (m : ℕ) (slots : List Slot) → length (slots_at_stage step m slots) ≡ length slots
-length-changed step m [] = refl
-length-changed step m (s ∷ ss) = ap suc (length-changed step m ss)
 
 -- the number of what is found, and its place
 pub found : (slots : List Slot) (n m : ℕ) (s : Slot) → AreInRow n slots → slot_at slots m ≡ Some s → (s.order.key.stan ≡ m) × (n ≤ m) × (m < n + length slots)

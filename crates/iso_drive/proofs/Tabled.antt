@@ -1,6 +1,6 @@
 -- The orders as a driver has them, where the acquirer's change.
-use Rattle.std.proofs.Common.{◌≡◌, ◌≢◌, ℕ, suc, Bool, true, false, refl, arith, ap, sym, ◌∙◌, List, [], ◌∷◌, ◌++◌, length, ◌<◌, ◌≤◌, ◌+◌, ◌-◌, cond, slice_set, subst}
-use Rattle.std.specs.Prelude.{◌==◌, Option, Some, None, slice_get, option_map, map, nat_lt}
+use Rattle.std.proofs.Common.{◌≡◌, ◌≢◌, ℕ, suc, true, false, refl, arith, ap, sym, ◌∙◌, List, [], ◌∷◌, ◌++◌, length, ◌<◌, ◌+◌, ◌-◌, slice_set, subst}
+use Rattle.std.specs.Prelude.{Option, Some, None, slice_get, option_map, map, nat_lt}
 use Rattle.std.proofs.lemmas.Option.{slice_get-map}
 use Rattle.std.proofs.lemmas.List.{map-set, map-append, length-append}
 use Rattle.iso_order.specs.declared.act.Act.{Act}
@@ -8,7 +8,8 @@ use Rattle.iso_order.specs.declared.act.Act.TheVariants.{Debit}
 use Rattle.iso_order.specs.declared.act.Money.{Money}
 use Rattle.iso_order.specs.declared.key.TxKey.{TxKey}
 use Rattle.iso_order.specs.Order.{Instruction}
-use Rattle.iso_acquirer.specs.declared.fault.AcqFault.TheVariants.{NoMoreTrace}
+use Rattle.iso_order.proofs.Lists.{some_is}
+use Rattle.iso_order.proofs.Plain.{number_self, other_number}
 use Rattle.iso_acquirer.specs.declared.slot.Slot.{Slot}
 use Rattle.iso_acquirer.specs.declared.slot.Role.{Role as Part}
 use Rattle.iso_acquirer.specs.declared.slot.Role.TheVariants.{Transaction, Reversal}
@@ -17,13 +18,13 @@ use Rattle.iso_acquirer.specs.declared.slot.Stage.TheVariants as phase
 use Rattle.iso_acquirer.specs.declared.state.State.{State}
 use Rattle.iso_acquirer.specs.declared.state.State.TheVariants.{Waiting}
 use Rattle.iso_acquirer.specs.Acquirer.{slot_at, state_at_stage, on_stage, slot_at_stage, slots_at_stage, timeout, timeout_of_slot, timeout_in_role, timeout_at_stage, next_reversal, slots_with_reversal, reversal_for, transaction_of}
+use Rattle.iso_acquirer.proofs.Numbered.{length-changed}
 use Rattle.iso_restarts.specs.Diary.{slots_asked}
 use Rattle.iso_drive.specs.declared.made.Made.{Made}
 use Rattle.iso_drive.specs.declared.made.Role.TheVariants.{Payment}
 use Rattle.iso_drive.specs.Counts.{is_waiting}
-use Rattle.iso_drive.specs.Made.{made_of, role_of, debit_in, IsTabled, AreInRow}
-use Rattle.iso_drive.proofs.Plain.{some_is, other_number, number_self}
-use Rattle.iso_drive.proofs.Row.{placed, written, row-changed, row-push, length-changed, found}
+use Rattle.iso_drive.specs.Made.{made_of, role_of, debit_in, IsTabled}
+use Rattle.iso_drive.proofs.Row.{placed, written, row-changed, row-push, found}
 
 -- ---- to look an order up
 

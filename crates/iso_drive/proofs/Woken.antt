@@ -1,13 +1,12 @@
 -- Those that are due are timed out, one after another.
-use Rattle.std.proofs.Common.{◌≡◌, ℕ, refl, ap, sym, ◌∙◌, List, [], ◌∷◌, ◌++◌, length, take, drop, get_or, ◌<◌, ◌≤◌, ◌+◌, arith, append_assoc, append-nil}
-use Rattle.std.specs.Prelude.{map}
+use Rattle.std.proofs.Common.{◌≡◌, ℕ, refl, ap, sym, ◌∙◌, List, [], ◌∷◌, ◌++◌, length, take, drop, get_or, ◌<◌, ◌+◌, arith, append_assoc, append-nil}
 use Rattle.std.proofs.lemmas.List.{map-append, take_more, drop_more}
 use Rattle.iso_restarts.specs.Diary.{Diary, times_out}
-use Rattle.iso_drive.specs.declared.due.Due.{Due}
-use Rattle.iso_drive.specs.Due.{due_by, due_later, again}
+use Rattle.iso_waits.specs.declared.due.Due.{Due}
+use Rattle.iso_waits.specs.Waits.{due_by, again}
 use Rattle.iso_drive.specs.Driving.{Driving, times_out_all, wakes_first, wakes, next_due}
-use Rattle.iso_drive.proofs.Waits.{first-due}
-use Rattle.iso_drive.specs.Due.{IsInOrder}
+use Rattle.iso_waits.proofs.Waits.{first-due}
+use Rattle.iso_waits.specs.Waits.{IsInOrder}
 
 -- one more element of a list
 one-more : {X : Type 0} (xs : List X) (i : ℕ) → i < length xs → (x : X) × (drop i xs ≡ x ∷ drop (i + 1) xs) × (take (i + 1) xs ≡ take i xs ++ x ∷ [])

@@ -4,17 +4,16 @@ use Rattle.std.specs.List.{AllByRecursion}
 use Rattle.iso_order.specs.declared.key.TxKey.{TxKey}
 use Rattle.iso_order.specs.Order.{Instruction}
 use Rattle.iso_acquirer.specs.declared.slot.Slot.{Slot}
-use Rattle.iso_acquirer.specs.declared.state.State.{State}
 use Rattle.iso_restarts.specs.declared.note.Note.{Note}
 use Rattle.iso_restarts.specs.declared.durable.Fault.{Fault}
 use Rattle.iso_restarts.specs.declared.durable.Fault.TheVariants as fault
 use Rattle.iso_restarts.specs.Diary.{Diary, MayLeave, in_memory, begins, times_out, hears, keeps}
 use Rattle.iso_restarts.specs.Durable.{diary_of, IsConsistent}
 use Rattle.iso_drive.specs.declared.driver.Driver.{Driver}
-use Rattle.iso_drive.specs.declared.due.Due.{Due}
+use Rattle.iso_waits.specs.declared.due.Due.{Due}
 use Rattle.iso_drive.specs.declared.heard.Heard.{Heard}
 use Rattle.iso_drive.specs.declared.heard.Heard.TheVariants.{Closed, Known, Foreign}
-use Rattle.iso_drive.specs.Due.{moment_after, due_by, due_later, again, without, AreInTime}
+use Rattle.iso_waits.specs.Waits.{moment_after, due_by, due_later, again, without, AreInTime}
 use Rattle.iso_drive.specs.Board.{IsBoard}
 
 -- a driver as contracts see it: its acquirer's notes, the open transactions in the order in which they become due, how

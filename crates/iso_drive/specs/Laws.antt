@@ -15,10 +15,10 @@ use Rattle.iso_outages.specs.World.{Passes}
 use Rattle.iso_restarts.specs.Diary.{in_memory, unsent}
 use Rattle.iso_restarts.specs.Laws.{AfterEachRun, both_with}
 use Rattle.iso_restarts.specs.World.{World, Event, Goes, Keeps, happens, run}
-use Rattle.iso_drive.specs.declared.due.Due.{Due}
+use Rattle.iso_waits.specs.declared.due.Due.{Due}
 use Rattle.iso_drive.specs.declared.heard.Heard.TheVariants.{Closed}
 use Rattle.iso_drive.specs.Driving.{Driving, slots_in, begins_now, wakes, hears_new, keeps_all}
-use Rattle.iso_drive.specs.Due.{due_by}
+use Rattle.iso_waits.specs.Waits.{due_by}
 use Rattle.iso_drive.specs.Open.{AreAllClosed}
 
 -- ---- a driver's calls are events of its acquirer

@@ -4,7 +4,6 @@ pub mod Books
 pub mod Counts
 pub mod Doubtful
 pub mod Driving
-pub mod Due
 pub mod Entries
 pub mod Laws
 pub mod Made

@@ -11,15 +11,15 @@ ghost use Rattle.iso_restarts.specs.Replayed.{CanNote, CanBeWritten};
 ghost use Rattle.iso_drive.specs.declared.made.Role.TheVariants.{Payment};
 ghost use Rattle.iso_drive.specs.Answered.{Closes};
 ghost use Rattle.iso_drive.specs.Board.{IsBoard};
-ghost use Rattle.iso_drive.specs.Due.{without, AreInTime};
+ghost use Rattle.iso_waits.specs.Waits.{without, AreInTime};
 ghost use Rattle.iso_drive.specs.Made.{IsTabled};
 
-use crate::due::{Due, leave_out};
 use crate::heard::Heard;
 use crate::made::{Made, Role, close, judge, time_out};
 use iso_acquirer::State;
 use iso_order::{Act, MOST_STAN, Money, Order, TxKey};
 use iso_restarts::{Fault, Note};
+use iso_waits::{Due, leave_out, wait};
 use std::alloc::{AllocError, Global};
 use std::collections::VecDeque;
 
@@ -56,7 +56,7 @@ pub(crate) fn begin(board: &mut Board, key: TxKey, money: Money, at: u64)
         debit: Some(money),
         role: Role::Payment(State::Waiting(1)),
     });
-    board.waiting.push_back_reserved(Due { stan: key.stan, at });
+    wait(&mut board.waiting, key.stan, at);
 }
 
 /// Begins a purchase again, as it began when its order was written down. It is due at once.

@@ -13,7 +13,7 @@ ghost use Rattle.iso_drive.specs.Counts.{count_of, counts_of, is_declined_with};
 ghost use Rattle.iso_drive.specs.Driving.{Driving, slots_in, at_moment, begins_now, wakes_first, wakes, hears_new, keeps_all};
 ghost use Rattle.iso_drive.specs.Driving.{driving_of, log_of, is_stopped, IsDriving, Remains, Stops, IsStarted, WakesSome, MayLeaveSome};
 ghost use Rattle.iso_drive.specs.Doubtful.{doubtful_of};
-ghost use Rattle.iso_drive.specs.Due.{due_by};
+ghost use Rattle.iso_waits.specs.Waits.{due_by};
 ghost use Rattle.iso_drive.specs.Entries.{entry_of};
 ghost use Rattle.iso_drive.specs.Open.{AreAllClosed};
 
@@ -22,28 +22,14 @@ use crate::board::{Board, begin, board_after, make_room, settle};
 use crate::books::approved_total;
 use crate::counts::{Counts, count, declined_with};
 use crate::doubtful::doubtful_of;
-use crate::due::{Due, due_by, moment_after, put_off};
 use crate::entry::{Entry, entry_at};
 use crate::heard::Heard;
 use crate::made::{judge, time_out};
 use iso_acquirer::AcqFault;
 use iso_order::{MOST_STAN, Money, Order, Pan, Told, TxKey};
 use iso_restarts::{DurableAcquirer, Fault, Note, NoteLog};
+use iso_waits::{due_by, first_of, is_empty, moment_after, put_off};
 use std::alloc::{AllocError, Global};
-use std::collections::VecDeque;
-
-/// The transaction that waits first.
-fn first_of(waiting: &VecDeque<Due>) -> Option<Due>
-    ensures { result ≡ slice_get waiting.now.items 0 }
-{
-    waiting.get(0).copied()
-}
-
-fn is_empty(waiting: &VecDeque<Due>) -> bool
-    ensures { IsTrue result ↔ (waiting.now.items ≡ []) }
-{
-    waiting.is_empty()
-}
 
 /// An acquirer over the log of its notes, and when each of its open transactions is due. Moments are in milliseconds, of
 /// any clock that goes on; one before the latest that was told counts as the latest.

@@ -1,4 +1,3 @@
-mod Decimals
 mod Packs
 mod Purchases
 mod Telling

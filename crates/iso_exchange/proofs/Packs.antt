@@ -1,11 +1,11 @@
 -- Numbers in packed digits.
 use Rattle.std.proofs.Common.{◌≡◌, ◌<◌, ℕ, zero, suc, ◌+◌, ◌-◌, ◌*◌, ◌/◌, ◌%◌, ◌^◌, true, false, refl, sym, ap, subst, ◌∙◌, List, [], ◌∷◌, ◌++◌, length, append_assoc, arith, inl, inr, Option, Some}
+use native.Mathlib.Numerals.{unary_clauses}
 use Rattle.std.specs.Prelude.{◌==◌, nat_le, slice_index}
 use Rattle.std.specs.List.{list_all}
-use Rattle.std.proofs.lemmas.Bool.{and_from, eqb-true, le-leb, cases_lt}
+use Rattle.std.proofs.lemmas.Bool.{eqb-true, le-leb, cases_lt}
 use Rattle.std.proofs.lemmas.List.{get_or_past}
 use Rattle.std.proofs.lemmas.Bool.Decides.{nat_tests}
-use Rattle.std.proofs.lemmas.List.Folds.{list_all-append}
 use Rattle.iso_parts.specs.Class.{is_digit, is_in_class}
 use Rattle.iso_parts.specs.Part.{Body, Part, pairs, plain_part, with_filler, characters}
 use Rattle.iso_parts.specs.PartLaws.{PartLaws}
@@ -15,21 +15,18 @@ use Rattle.iso_parts.specs.declared.spec.FieldSpec.{FieldSpec}
 use Rattle.iso_table.specs.Layout.{row_at}
 use Rattle.iso_wire.specs.Decimal.{decimal, number, number_in}
 use Rattle.iso_wire.specs.Spelling.{plain_by, plain_of}
-use Rattle.iso_wire.proofs.Decimals.{digit_at}
+use Rattle.iso_wire.proofs.Decimals.{digit_at, length-decimal, list_all-decimal}
 use Rattle.iso_exchange.specs.Purchase.{AddsPart}
 use Rattle.iso_exchange.specs.Packed.{packed, counted, IsCounted, IsPacked}
-use Rattle.iso_exchange.proofs.Decimals.{length-decimal, zero-before}
 
 -- ---- written
 
-last_digit : (v : ℕ) → is_digit (48 + v % 10) ≡ true
-last_digit v = grind (arith, nat_tests)
-
-pub list_all-decimal : (n v : ℕ) → list_all is_digit (decimal n v) ≡ true
-list_all-decimal zero v = refl
-list_all-decimal (suc n) v =
-    let last = (48 + v % 10) ∷ [] in
-    list_all-append is_digit (decimal n (v / 10)) last ∙ and_from _ _ (list_all-decimal n (v / 10)) (and_from _ _ (last_digit v) refl)
+-- a digit more than needed is a zero before the others
+zero-before : (n v : ℕ) → v < 10 ^ n → decimal (suc n) v ≡ 48 ∷ decimal n v
+zero-before zero v lt = let none : v ≡ 0 = omega arith in rw none refl
+zero-before (suc n) v lt =
+    let next : 10 ^ suc n ≡ 10 ^ n * 10 = simp unary_clauses refl in
+    ap (λ (ds : List ℕ). ds ++ (48 + v % 10) ∷ []) (zero-before n (v / 10) (omega arith))
 
 -- two characters more behind an even count of them
 pairs-more : (k : ℕ) (xs : List ℕ) (h l : ℕ) → length xs ≡ 2 * k → pairs (xs ++ h ∷ l ∷ []) ≡ pairs xs ++ (16 * (h % 16) + l % 16) ∷ []

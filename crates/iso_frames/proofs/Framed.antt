@@ -3,17 +3,14 @@ use Rattle.std.proofs.Common.{◌≡◌, ◌≤◌, ℕ, refl, ap, sym, ◌∙�
 use Rattle.std.proofs.lemmas.List.{map-append}
 use Rattle.iso_table.specs.Layout.{Layout}
 use Rattle.iso_wire.specs.declared.header.Header.{Header}
-use Rattle.iso_wire.specs.Framing.{frame_of, frames_of, largest, AllFit}
+use Rattle.iso_wire.specs.Framing.{frame_of, frames_of, largest}
+use Rattle.iso_wire.proofs.FrameSplits.{fit_more}
 use Rattle.iso_frames.specs.declared.reading.Read.{Read}
 use Rattle.iso_frames.specs.Reading.{read_of, TakesFrames}
 
 frames-more : (h : Header) (bodies : List (List ℕ)) (body : List ℕ) → frames_of h (bodies ++ body ∷ []) ≡ frames_of h bodies ++ frame_of h body
 frames-more h [] body = append-nil (frame_of h body)
 frames-more h (b ∷ bs) body = ap (λ rest. frame_of h b ++ rest) (frames-more h bs body) ∙ sym (append_assoc (frame_of h b) (frames_of h bs) (frame_of h body))
-
-fit-more : (h : Header) (bodies : List (List ℕ)) (body : List ℕ) → AllFit h bodies → length body ≤ largest h → AllFit h (bodies ++ body ∷ [])
-fit-more h [] body all fits = (fits, tt)
-fit-more h (b ∷ bs) body all fits = (all.0, fit-more h bs body all.1 fits)
 
 -- no frame is taken yet
 pub none-taken : (t : Layout) (h : Header) (came : List ℕ) → TakesFrames t h came came []
@@ -28,6 +25,6 @@ one-more t h first before after body some read so front fits told = record {
   joined = so.joined ∙ ap (λ rest. frames_of h so.bodies ++ rest) front
       ∙ sym (append_assoc (frames_of h so.bodies) (frame_of h body) after)
       ∙ ap (λ frames. frames ++ after) (sym (frames-more h so.bodies body));
-  fit = fit-more h so.bodies body so.fit fits;
+  fit = fit_more h so.bodies body so.fit fits;
   each = ap (λ r. some ++ r ∷ []) told ∙ ap (λ rs. rs ++ read_of t body ∷ []) so.each ∙ sym (map-append (read_of t) so.bodies (body ∷ []));
 }

@@ -1,7 +1,8 @@
 -- To which shard an account number belongs.
-use Rattle.std.proofs.Common.{◌≡◌, ◌∙◌, ℕ, ◌<◌, Bool, true, false, List, [], ◌∷◌, ◌++◌, slice_get, Option, Some, None, IfSome, zero, suc, subst, sym, refl, ap, if◌then◌else◌}
+use Rattle.std.proofs.Common.{◌≡◌, ◌∙◌, ℕ, ◌<◌, Bool, true, false, List, [], ◌∷◌, ◌++◌, slice_get, Option, Some, None, IfSome, zero, suc, sym, refl, ap, if◌then◌else◌}
 use Rattle.std.specs.List.{AllByRecursion}
 use Rattle.iso_order.specs.Pan.{AccountNumber}
+use Rattle.iso_order.proofs.Lists.{all-push, all-at}
 use Rattle.iso_front.specs.declared.prefixes.Given.{Given}
 use Rattle.iso_front.specs.Prefixes.{covers, AreApart}
 use Rattle.iso_front.specs.Shards.{NoneMeet, Belongs, shard_in}
@@ -33,12 +34,6 @@ found-some count gs pan (Some n) is = found count gs pan n (sym is)
 
 -- ---- the shard that has the account number is told
 
--- what holds of each holds of the one at a place
-pub at-place : {X : Type 0} (P : X → Type 0) (xs : List X) (i : ℕ) (x : X) → AllByRecursion P xs → slice_get xs i ≡ Some x → P x
-at-place P [] i x all there = absurd (cc)
-at-place P (y ∷ ys) zero x (here, later) there = let same : y ≡ x = cc in subst P same here
-at-place P (y ∷ ys) (suc i) x (here, later) there = at-place P ys i x later there
-
 only-by : (t : Bool) (g : Given) (gs : List Given) (pan : AccountNumber) (h : Given) → covers g.prefixes pan ≡ t
     → AllByRecursion (λ p. AreApart g.prefixes p.prefixes) gs
     → ((i : ℕ) → slice_get gs i ≡ Some h → shard_in gs pan ≡ Some h.shard) → covers h.prefixes pan ≡ true
@@ -46,7 +41,7 @@ only-by : (t : Bool) (g : Given) (gs : List Given) (pan : AccountNumber) (h : Gi
 only-by true g gs pan h is first later covered zero there =
     let same : g ≡ h = cc in ap (λ (x : Given). Some x.shard) same
 only-by true g gs pan h is first later covered (suc i) there =
-    absurd (at-place (λ p. AreApart g.prefixes p.prefixes) gs i h first there pan is covered)
+    absurd (all-at (λ p. AreApart g.prefixes p.prefixes) gs i h first there pan is covered)
 only-by false g gs pan h is first later covered zero there =
     let same : g ≡ h = cc in
     let begun : covers g.prefixes pan ≡ true = ap (λ (x : Given). covers x.prefixes pan) same ∙ covered in
@@ -70,13 +65,9 @@ pub there-some : (count : ℕ) (gs : List Given) (pan : AccountNumber) (r : Opti
 there-some count gs pan None is all = tt
 there-some count gs pan (Some n) is all =
     let b = found count gs pan n (sym is) in
-    at-place (λ (g : Given). g.shard < count) gs b.place (record { prefixes = b.prefixes; shard = n }) all b.given
+    all-at (λ (g : Given). g.shard < count) gs b.place (record { prefixes = b.prefixes; shard = n }) all b.given
 
 -- ---- one more
-
-pub all-push : {X : Type 0} (P : X → Type 0) (xs : List X) (x : X) → AllByRecursion P xs → P x → AllByRecursion P (xs ++ x ∷ [])
-all-push P [] x all here = (here, tt)
-all-push P (y ∷ ys) x (one, all) here = (one, all-push P ys x all here)
 
 -- what is apart from all of them stands behind them
 pub none-meet-push : (gs : List Given) (h : Given) → NoneMeet gs → AllByRecursion (λ g. AreApart g.prefixes h.prefixes) gs

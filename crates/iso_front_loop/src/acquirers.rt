@@ -2,7 +2,8 @@
 
 use crate::acquirer::{Acquirer, Rooms};
 use crate::serving::Front;
-use crate::telling::{Event, Telling};
+use crate::telling::Event;
+use iso_edge::Telling;
 use iso_order::NoMemory;
 use iso_parts::Mti;
 use iso_wire::Message;

@@ -1,7 +1,8 @@
 //! The port that a front listens on.
 
 use crate::acquirers::{Acquirers, Dial, token_of};
-use iso_lines::{Control, LoopFault, Unbound};
+use iso_edge::listen;
+use iso_lines::{Control, LoopFault};
 use mio::net::{TcpListener, TcpStream};
 use mio::unix::SourceFd;
 use mio::{Events, Interest, Poll, Token};
@@ -39,34 +40,6 @@ pub(crate) struct Sockets<'p, R> {
     port: &'p Port,
 }
 
-/// Why the system refused an address.
-fn unbound(kind: ErrorKind) -> Unbound {
-    match kind {
-        ErrorKind::AddrInUse => Unbound::Taken,
-        ErrorKind::AddrNotAvailable => Unbound::Elsewhere,
-        ErrorKind::PermissionDenied => Unbound::Denied,
-        _ => Unbound::Other,
-    }
-}
-
-/// Listens on an address, and has the system watch it.
-fn listen<R: Net>(rt: &R, poll: &Poll, address: SocketAddr) -> Result<TcpListener, LoopFault> {
-    let mut listener = match TcpListener::bind(rt, address) {
-        Ok(listener) => listener,
-        Err(error) => {
-            let why = unbound(error.kind());
-            return Err(LoopFault::Listen { address, why });
-        }
-    };
-    match poll
-        .registry()
-        .register(&mut listener, PORT, Interest::READABLE)
-    {
-        Ok(()) => Ok(listener),
-        Err(_) => Err(LoopFault::Wait),
-    }
-}
-
 impl<'p, R: Net> Dial<TcpStream> for Sockets<'p, R> {
     fn dial(&mut self, token: usize, address: SocketAddr) -> Option<TcpStream> {
         let Ok(mut stream) = TcpStream::connect(self.rt, address) else {
@@ -88,7 +61,7 @@ impl Port {
             return Err(LoopFault::Wait);
         };
         let events = Events::with_capacity(alloc, EVENTS)?;
-        let listener = listen(rt, &poll, address)?;
+        let listener = listen(rt, &poll, PORT, address)?;
         let _ = poll
             .registry()
             .register(&mut SourceFd(&0), CONTROL, Interest::READABLE);

@@ -2,6 +2,7 @@
 
 use crate::acquirers::Acquirers;
 use crate::edge::Port;
+use iso_edge::{Looks, moment};
 use iso_front::Shards;
 use iso_lines::{Control, LoopFault, PAUSE};
 use iso_relay::Bounds;
@@ -26,38 +27,6 @@ pub struct Front<'f> {
     pub bounds: Bounds,
 }
 
-/// The milliseconds of a clock that never goes back.
-fn moment<R: Clock>(rt: &R) -> Result<u64, LoopFault> {
-    match rt.monotonic() {
-        Ok(time) => Ok(
-            time.as_secs()
-                .saturating_mul(1_000)
-                .saturating_add(u64::from(time.subsec_millis())),
-        ),
-        Err(_) => Err(LoopFault::Wait),
-    }
-}
-
-/// When a stop file was last looked for, in milliseconds.
-#[derive(Clone, Copy)]
-struct Looks {
-    last: u64,
-}
-
-impl Looks {
-    /// Whether the front stops now.
-    fn stops<C: Control>(&mut self, control: &mut C, has_ended: bool, now: u64) -> bool {
-        if has_ended {
-            return true;
-        }
-        if now.saturating_sub(self.last) < PAUSE {
-            return false;
-        }
-        self.last = now;
-        control.is_called_off()
-    }
-}
-
 /// Serves the acquirers that come on a port: what they ask goes to the shards, and their answers come back. Until it is stopped:
 /// then it ends after the turn. What happens is told to the writer, a line of JSON each, without an account number.
 pub fn serve_front<R: Net + Clock, C: Control, W: Write + Drop>(
@@ -69,7 +38,7 @@ pub fn serve_front<R: Net + Clock, C: Control, W: Write + Drop>(
     told: W,
 ) -> Result<(), LoopFault> {
     let mut acquirers: Acquirers<'_, TcpStream, W> = Acquirers::new(alloc, front, told);
-    let mut looks = Looks { last: 0 };
+    let mut looks = Looks::every(PAUSE);
     let mut pause = 0u64;
     for _ in 0..u64::MAX {
         let has_ended = port.wait(pause, &mut acquirers, control)?;
@@ -77,7 +46,7 @@ pub fn serve_front<R: Net + Clock, C: Control, W: Write + Drop>(
         port.accept_all(&mut acquirers, now);
         acquirers.hear_all(now, &mut port.sockets(rt));
         let goes_on = acquirers.settle(now);
-        if looks.stops(control, has_ended, now) {
+        if looks.stop(control, has_ended, now).is_some() {
             return Ok(());
         }
         pause = if goes_on { 0 } else { PAUSE };

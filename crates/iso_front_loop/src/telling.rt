@@ -1,8 +1,8 @@
 //! Lines of JSON on what a front does.
 
 use crate::acquirer::Counts;
-use std::alloc::{AllocError, Global};
-use std::io::Write;
+use iso_edge::Told;
+use std::alloc::AllocError;
 
 /// What is told.
 #[derive(Clone, Copy, PartialEq, Eq)]
@@ -27,57 +27,18 @@ fn add_closed(line: &mut String, acquirer: u64, counts: &Counts) -> Result<(), A
     )
 }
 
-/// Adds the line of an event.
-fn add_event(line: &mut String, event: &Event) -> Result<(), AllocError> {
-    match event {
-        Event::Connected(acquirer) => {
-            writeln!(line, "{{\"event\":\"connected\",\"acquirer\":{acquirer}}}")
-        }
-        Event::Refused => writeln!(line, "{{\"event\":\"refused\"}}"),
-        Event::Lost { acquirer, shards } => writeln!(
-            line,
-            "{{\"event\":\"lost\",\"acquirer\":{acquirer},\"shards\":{shards}}}"
-        ),
-        Event::Closed { acquirer, counts } => add_closed(line, *acquirer, counts),
-    }
-}
-
-/// Writes each event as a line. One that can't be made or written now is dropped: nobody waits for who reads them.
-#[derive(Drop)]
-pub(crate) struct Telling<W> {
-    out: W,
-    line: String,
-    /// Whether a line was cut off: the next one begins behind a newline.
-    is_torn: bool,
-}
-
-impl<W: Write> Telling<W> {
-    /// Lines to this writer. Takes no memory.
-    pub fn new(alloc: Global, out: W) -> Telling<W> {
-        Telling {
-            out,
-            line: String::new(alloc),
-            is_torn: false,
-        }
-    }
-
-    /// Makes the line of an event.
-    fn make(&mut self, event: &Event) -> Result<(), AllocError> {
-        self.line.clear();
-        if self.is_torn {
-            self.line.push('\n')?;
-        }
-        add_event(&mut self.line, event)
-    }
-
-    /// Tells an event.
-    pub fn tell(&mut self, event: &Event) {
-        if self.make(event).is_err() {
-            return;
-        }
-        match self.out.write(self.line.as_bytes()) {
-            Ok(count) => self.is_torn = count < self.line.len(),
-            Err(_) => {}
+impl Told for Event {
+    fn add_to(&self, line: &mut String) -> Result<(), AllocError> {
+        match self {
+            Event::Connected(acquirer) => {
+                writeln!(line, "{{\"event\":\"connected\",\"acquirer\":{acquirer}}}")
+            }
+            Event::Refused => writeln!(line, "{{\"event\":\"refused\"}}"),
+            Event::Lost { acquirer, shards } => writeln!(
+                line,
+                "{{\"event\":\"lost\",\"acquirer\":{acquirer},\"shards\":{shards}}}"
+            ),
+            Event::Closed { acquirer, counts } => add_closed(line, *acquirer, counts),
         }
     }
 }

@@ -8,22 +8,14 @@ use Rattle.iso_order.specs.Order.{Instruction}
 use Rattle.iso_order.specs.declared.key.TxKey.{TxKey}
 use Rattle.iso_issuer.specs.Books.{Books}
 use Rattle.iso_issuer.specs.Laws.{books_after}
-use Rattle.iso_host.specs.Asking.{asked_of, message_in, orders_in, orders_of}
+use Rattle.iso_host.specs.Asking.{message_in, orders_of}
 use Rattle.iso_host.specs.Entering.{books_after_bodies, BodiesGoOn}
-use Rattle.iso_host.specs.Handling.{entered_by, EntersOrKeeps}
+use Rattle.iso_host.specs.Handling.{EntersOrKeeps}
+use Rattle.iso_peers.proofs.Pieces.{by_orders, body_alone}
 use Rattle.iso_guard.specs.Guarding.{Guard, IsAllowed, EntersAllowed}
 use Rattle.iso_guard.specs.Entering.{entering_unless, foreign_to, entering_of, entering_all, books_after_guarded, EntersOrNot}
 
 -- ---- books
-
--- bodies enter the books by the orders that they ask
-pub by_orders : (t : Layout) (books : Books) (bodies : List (List ℕ)) → books_after_bodies t books bodies ≡ books_after books (orders_of t bodies)
-unfolding books_after_bodies
-by_orders t books bodies = refl
-
--- one body enters them by its message
-pub body_alone : (t : Layout) (books : Books) (body : List ℕ) → entered_by books (message_in t body) ≡ books_after_bodies t books (body ∷ [])
-body_alone t books body = ap (books_after books) (sym (append-nil (orders_in (asked_of t body)))) ∙ sym (by_orders t books (body ∷ []))
 
 -- ---- what enters of bodies
 

@@ -9,6 +9,7 @@ use Rattle.iso_wire.specs.declared.header.Header.TheVariants.{Binary2, Ascii4, B
 use Rattle.iso_wire.specs.Contents.{Contents}
 use Rattle.iso_wire.specs.Framing.{frame_of, header_of, header_size, largest}
 use Rattle.iso_wire.specs.Spelling.{PlainSpelling}
+use Rattle.iso_wire.proofs.FrameHeaders.{length-header_of}
 use Rattle.iso_order.specs.declared.key.TxKey.{TxKey}
 use Rattle.iso_order.specs.Outcome.{code_alone}
 use Rattle.iso_order.specs.Response.{response}
@@ -23,11 +24,6 @@ use Rattle.iso_guard.specs.Answering.{response_unless, AnswersGuarded, IsFramedB
 
 -- ---- headers
 
-pub header_length : (h : Header) (n : ℕ) → length (header_of h n) ≡ header_size h
-header_length Binary2 n = refl
-header_length Ascii4 n = refl
-header_length Bcd2 n = refl
-
 pub header_counts : (h : Header) → 1 ≤ header_size h
 header_counts Binary2 = omega arith
 header_counts Ascii4 = omega arith
@@ -36,10 +32,10 @@ header_counts Bcd2 = omega arith
 -- the body behind a header
 pub behind_header : (h : Header) (body : List ℕ) → drop (header_size h) (frame_of h body) ≡ body
 behind_header h body =
-    subst (λ (n : ℕ). drop n (header_of h (length body) ++ body) ≡ body) (header_length h (length body)) (drop-append_seam (header_of h (length body)) body)
+    subst (λ (n : ℕ). drop n (header_of h (length body) ++ body) ≡ body) (length-header_of h (length body)) (drop-append_seam (header_of h (length body)) body)
 
 pub frame_length : (h : Header) (body : List ℕ) → length (frame_of h body) ≡ header_size h + length body
-frame_length h body = length-append (header_of h (length body)) body ∙ ap (λ (n : ℕ). n + length body) (header_length h (length body))
+frame_length h body = length-append (header_of h (length body)) body ∙ ap (λ (n : ℕ). n + length body) (length-header_of h (length body))
 
 -- ---- the host's answer, behind the bytes before its message
 

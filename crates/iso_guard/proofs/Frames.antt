@@ -4,8 +4,8 @@ use Rattle.std.specs.Prelude.{Option, Some, None}
 use Rattle.std.proofs.lemmas.List.{length-drop, length-append}
 use Rattle.std.proofs.Math.Seq.{drop-length, take-length}
 use Rattle.iso_table.specs.Layout.{Layout}
-use Rattle.iso_wire.specs.declared.header.Header.{Header}
-use Rattle.iso_wire.specs.Framing.{frame_of, frames_of, AllFit, Begins, largest}
+use Rattle.iso_wire.specs.Framing.{frame_of, frames_of, AllFit, Begins}
+use Rattle.iso_wire.proofs.FrameSplits.{frames_more, fit_more}
 use Rattle.iso_issuer.specs.Books.{Books}
 use Rattle.iso_peers.specs.Turn.{books_change}
 use Rattle.iso_host.specs.Peers.{one_peer}
@@ -22,16 +22,6 @@ use Rattle.iso_guard.proofs.Allowed.{allowed_enter, books_more, one_more_or_not}
 use Rattle.iso_guard.proofs.Answers.{frame_length, header_counts}
 
 -- ---- one body more
-
-frames_more : (h : Header) (bodies : List (List ℕ)) (body rest : List ℕ) → frames_of h (bodies ++ body ∷ []) ++ rest ≡ frames_of h bodies ++ (frame_of h body ++ rest)
-frames_more h [] body rest = ap (λ (l : List ℕ). l ++ rest) (append-nil (frame_of h body))
-frames_more h (x ∷ xs) body rest =
-    append_assoc (frame_of h x) (frames_of h (xs ++ body ∷ [])) rest ∙ ap (λ (l : List ℕ). frame_of h x ++ l) (frames_more h xs body rest)
-    ∙ sym (append_assoc (frame_of h x) (frames_of h xs) (frame_of h body ++ rest))
-
-fit_more : (h : Header) (bodies : List (List ℕ)) (body : List ℕ) → AllFit h bodies → length body ≤ largest h → AllFit h (bodies ++ body ∷ [])
-fit_more h [] body f k = (k, tt)
-fit_more h (x ∷ xs) body f k = (f.0, fit_more h xs body f.1 k)
 
 module _ (g : Guard) (books : Books) where
   output_from_more : (earlier bodies : List (List ℕ)) (body out first : List ℕ) → IsGuardedOutputFrom g books earlier bodies out

@@ -1,4 +1,3 @@
 mod Allowed
 mod Answers
 mod Frames
-mod InStep

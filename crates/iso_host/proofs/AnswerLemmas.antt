@@ -1,22 +1,18 @@
 -- A body that is answered, or not.
-use Rattle.std.proofs.Common.{◌≡◌, ℕ, ◌<◌, List, [], ◌∷◌, ◌++◌, length, inr, Option, Some, None, Result, Ok, Err, refl, sym, ap, subst, append-nil, ◌∙◌, cond, eqb, Bool, true, false, arith}
+use Rattle.std.proofs.Common.{◌≡◌, ℕ, List, [], length, inr, Option, Some, None, Result, Ok, Err, refl, sym, ap, subst, append-nil, ◌∙◌, cond, eqb, Bool, true, false, arith}
 use Rattle.std.specs.Prelude.{option_map, OnOk}
 use Rattle.std.proofs.lemmas.Bool.{eqb-true}
 use Rattle.iso_table.specs.Layout.{Layout}
-use Rattle.iso_wire.specs.declared.fault.UnpackFault.{UnpackFault}
 use Rattle.iso_wire.specs.declared.header.Header.{Header}
 use Rattle.iso_wire.specs.Contents.{Contents}
-use Rattle.iso_wire.specs.Reading.{message_at, whole}
-use Rattle.iso_order.specs.Order.{Instruction}
 use Rattle.iso_order.specs.Outcome.{Outcome}
 use Rattle.iso_order.specs.Response.{response}
 use Rattle.iso_order.specs.Verdict.{verdict}
-use Rattle.iso_order.specs.declared.verdict.Verdict.{Verdict}
 use Rattle.iso_order.specs.declared.verdict.Verdict.TheVariants as asks
 use Rattle.iso_issuer.specs.Books.{Books}
 use Rattle.iso_issuer.specs.Laws.{books_after}
 use Rattle.iso_host.specs.Asking.{asked_of, message_in, orders_in, whole_by}
-use Rattle.iso_host.specs.Output.{IsAnswerTo, IsFramed, outcome_for, outcome_of, response_with}
+use Rattle.iso_host.specs.Output.{IsAnswerTo, IsFramed, outcome_of, response_with}
 use Rattle.iso_host.specs.Hosting.{AnswersMessage, Answers, IsBodyFault, IsHandled, IsHandledBy, replying}
 use Rattle.iso_host.specs.Links.{agreed}
 use Rattle.iso_host.specs.Handling.{EntersOrKeeps}

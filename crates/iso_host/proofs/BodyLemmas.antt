@@ -1,13 +1,12 @@
 -- The message that a whole body is, and what the body spells.
-use Rattle.std.proofs.Common.{◌≡◌, ◌≢◌, ℕ, zero, suc, ◌+◌, ◌≤◌, Bool, true, false, cond, eqb, List, [], ◌∷◌, ◌++◌, length, length-append, append-nil, take, Some, None, Result, Ok, Err, refl, sym, ap, ◌∙◌, subst, arith}
+use Rattle.std.proofs.Common.{◌≡◌, ℕ, Bool, true, false, cond, eqb, length, take, Some, None, Result, Ok, Err, refl, sym, ap, ◌∙◌, subst, arith}
 use Rattle.std.proofs.Math.Seq.{take-length}
 use Rattle.std.proofs.lemmas.Bool.{eqb-true, eq-eqb}
 use Rattle.iso_wire.specs.declared.fault.UnpackFault.{UnpackFault}
-use Rattle.iso_table.specs.Layout.{Layout, AreGood}
 use Rattle.iso_wire.specs.Contents.{Contents}
 use Rattle.iso_wire.specs.Reading.{message_at, whole}
 use Rattle.iso_wire.specs.ReadingLaws.{ReadsSpellings}
-use Rattle.iso_wire.specs.Spelling.{AreBytes, Spelling}
+use Rattle.iso_wire.specs.Spelling.{Spelling}
 use Rattle.iso_host.specs.Asking.{whole_by, message_in, BodiesAreSpellings}
 
 -- what is read takes the whole body
@@ -36,8 +35,3 @@ bodies_spelled reads t m body good bytes =
     )
 
 -- ---- pieces
-
-pub bytes_append : (a b : List ℕ) → AreBytes a → AreBytes b → AreBytes (a ++ b)
-bytes_append [] b first second i = second i
-bytes_append (x ∷ a) b first second zero = first 0
-bytes_append (x ∷ a) b first second (suc i) = bytes_append a b (λ k. first (suc k)) second i

@@ -1,5 +1,5 @@
 -- A body of which some bytes came.
-use Rattle.std.proofs.Common.{◌≡◌, ◌≢◌, ℕ, ◌+◌, ◌<◌, ◌≤◌, List, [], ◌++◌, length, length-append, Option, Some, None, Err, Ok, sym, ap, subst, ◌∙◌, append_assoc, arith}
+use Rattle.std.proofs.Common.{◌≡◌, ◌≢◌, ℕ, ◌+◌, ◌<◌, ◌≤◌, List, [], ◌++◌, length, length-append, Option, Some, None, Err, sym, ap, subst, ◌∙◌, append_assoc, arith}
 use Rattle.iso_wire.specs.declared.fault.UnpackFault.{UnpackFault}
 use Rattle.iso_wire.specs.declared.fault.UnpackCause.TheVariants.{Short}
 use Rattle.iso_table.specs.Layout.{Layout, AreGood}
@@ -7,14 +7,15 @@ use Rattle.iso_wire.specs.Contents.{Contents}
 use Rattle.iso_wire.specs.Unpacker.{Feeding}
 use Rattle.iso_wire.specs.Reading.{message_at, whole}
 use Rattle.iso_wire.specs.ReadingLaws.{IsShort, ReadingStays, ReadsSpellings}
-use Rattle.iso_wire.specs.Spelling.{AreBytes, Spelling}
+use Rattle.iso_wire.specs.Spelling.{AreBytes}
+use Rattle.iso_wire.proofs.Bytes.{bytes_append}
 use Rattle.iso_host.specs.Asking.{message_in, whole_by}
 use Rattle.iso_host.specs.Gathering.{Holds, IsGathered, IsLost, ReadsBody}
 use Rattle.iso_host.specs.Hosting.{IsBodyFault}
 use Rattle.iso_host.specs.declared.handled.BodyFault.{BodyFault}
 use Rattle.iso_host.specs.declared.handled.BodyFault.TheVariants.{Stops, Behind}
 use Rattle.iso_host.proofs.AnswerLemmas.{no_message}
-use Rattle.iso_host.proofs.BodyLemmas.{bytes_append, is_there}
+use Rattle.iso_host.proofs.BodyLemmas.{is_there}
 
 -- ---- what the bytes tell, whatever follows
 

@@ -1,13 +1,13 @@
 mod AnswerLemmas
 mod BodyLemmas
-mod FrameLemmas
+pub mod FrameLemmas
 mod GatherLemmas
 mod JournalLemmas
 mod NextLemmas
-mod OutputLemmas
+pub mod OutputLemmas
 mod PeerLemmas
 mod Running
-mod ServeLemmas
+pub mod ServeLemmas
 mod ShareLemmas
 mod StreamLemmas
 mod Walks

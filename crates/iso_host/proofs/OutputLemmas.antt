@@ -1,10 +1,10 @@
 -- One more body: the stream and the output.
-use Rattle.std.proofs.Common.{◌≡◌, ℕ, zero, suc, ◌-◌, ◌≤◌, List, [], ◌∷◌, ◌++◌, length, take, Option, Some, None, sym, subst, refl, arith, ap, ◌∙◌, append_assoc, append-nil, length-append}
+use Rattle.std.proofs.Common.{◌≡◌, ℕ, zero, suc, ◌-◌, List, [], ◌∷◌, ◌++◌, length, take, Option, Some, None, sym, subst, refl, arith, ap, ◌∙◌, append_assoc, append-nil, length-append}
 use Rattle.std.proofs.Math.Seq.{take-append_seam}
 use Rattle.iso_table.specs.Layout.{Layout}
 use Rattle.iso_wire.specs.declared.header.Header.{Header}
 use Rattle.iso_wire.specs.Contents.{Contents}
-use Rattle.iso_wire.specs.Framing.{frame_of, frames_of, AllFit, largest}
+use Rattle.iso_wire.specs.Framing.{frame_of}
 use Rattle.iso_wire.specs.OneSpelling.{PlainOnce}
 use Rattle.iso_issuer.specs.Books.{Books}
 use Rattle.iso_host.specs.Entering.{books_after_bodies}
@@ -14,16 +14,6 @@ use Rattle.iso_host.specs.Output.{response_to, IsFramed, IsAnswer, IsAnswerTo, I
 use Rattle.iso_host.specs.Serving.{front, IsPrefix}
 
 -- ---- the stream
-
-pub frames_more : (h : Header) (bodies : List (List ℕ)) (body rest : List ℕ) → frames_of h (bodies ++ body ∷ []) ++ rest ≡ frames_of h bodies ++ (frame_of h body ++ rest)
-frames_more h [] body rest = ap (λ (l : List ℕ). l ++ rest) (append-nil (frame_of h body))
-frames_more h (x ∷ xs) body rest =
-    append_assoc (frame_of h x) (frames_of h (xs ++ body ∷ [])) rest ∙ ap (λ (l : List ℕ). frame_of h x ++ l) (frames_more h xs body rest)
-    ∙ sym (append_assoc (frame_of h x) (frames_of h xs) (frame_of h body ++ rest))
-
-pub AllFit_more : (h : Header) (bodies : List (List ℕ)) (body : List ℕ) → AllFit h bodies → length body ≤ largest h → AllFit h (bodies ++ body ∷ [])
-AllFit_more h [] body f k = (k, tt)
-AllFit_more h (x ∷ xs) body f k = (f.0, AllFit_more h xs body f.1 k)
 
 pub front_more : (bodies : List (List ℕ)) (body : List ℕ) → front (bodies ++ body ∷ []) ≡ bodies
 front_more bodies body =

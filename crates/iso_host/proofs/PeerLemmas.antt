@@ -1,12 +1,13 @@
 -- Bytes behind those that a peer holds.
 use Rattle.std.proofs.Common.{◌≡◌, ◌≢◌, ℕ, zero, suc, ◌+◌, ◌-◌, ◌<◌, ◌≤◌, Bool, true, false, eqb, leb, ◌&&◌, List, [], ◌∷◌, ◌++◌, length, take, drop, slice_index_or, Some, None, inl, inr, refl, sym, subst, ap, ◌∙◌, arith, length-append, length-take, length-drop, append_assoc, append-nil, take-append-drop}
 use Rattle.std.specs.Prelude.{Result, Ok, Err, IfOk, IfErr, OnOk, OnErr}
-use Rattle.std.proofs.Math.Seq.{take-add, take-length}
+use Rattle.std.proofs.Math.Seq.{take-add}
 use Rattle.std.proofs.lemmas.Bool.{eqb-true, eq-eqb, leb-true}
 use Rattle.iso_table.specs.Layout.{Layout}
 use Rattle.iso_wire.specs.declared.header.Header.{Header}
 use Rattle.iso_wire.specs.declared.header.Header.TheVariants.{Binary2, Ascii4, Bcd2}
 use Rattle.iso_wire.specs.Framing.{header_of, header_size, frame_of, largest, NeedsMore, is_bad_header, BadStays}
+use Rattle.iso_wire.proofs.FrameHeaders.{length-header_of}
 use Rattle.iso_issuer.specs.Books.{Books}
 use Rattle.iso_host.specs.Asking.{message_in}
 use Rattle.iso_host.specs.Beginning.{head_of, held_of, IsBegun, IsInBody, IsInHeader}
@@ -23,11 +24,6 @@ use Rattle.iso_host.specs.declared.taking.Step.{Step}
 
 -- ---- headers
 
-pub header_long : (h : Header) (n : ℕ) → length (header_of h n) ≡ header_size h
-header_long Binary2 n = refl
-header_long Ascii4 n = refl
-header_long Bcd2 n = refl
-
 size_least : (h : Header) → 2 ≤ header_size h
 size_least Binary2 = omega arith
 size_least Ascii4 = omega arith
@@ -39,7 +35,7 @@ short_needs h b short = record { no_frame = none; no_fault = fault h short }
   where
     none : (body more : List ℕ) → length body ≤ largest h → b ≡ frame_of h body ++ more → ⊥
     none body more fits is =
-        omega (arith, short, ap length is, length-append (frame_of h body) more, length-append (header_of h (length body)) body, header_long h (length body))
+        omega (arith, short, ap length is, length-append (frame_of h body) more, length-append (header_of h (length body)) body, length-header_of h (length body))
 
     few : (n : ℕ) (t : Bool) → length b < n → (leb n (length b) && t) ≡ false
     few n t less = by_test (leb n (length b)) refl
@@ -57,7 +53,7 @@ short_needs h b short = record { no_frame = none; no_fault = fault h short }
 
 -- its header is there
 pub has_header : (h : Header) (bytes : List ℕ) (n : ℕ) → take (header_size h) bytes ≡ header_of h n → header_size h ≤ length bytes
-has_header h bytes n header = omega (arith, ap length header, header_long h n, length-take (header_size h) bytes)
+has_header h bytes n header = omega (arith, ap length header, length-header_of h n, length-take (header_size h) bytes)
 
 module _ (h : Header) (bytes : List ℕ) (n : ℕ) (header : take (header_size h) bytes ≡ header_of h n) (fits : n ≤ largest h) (here : n ≤ length bytes - header_size h) where
   body_size : length (take n (drop (header_size h) bytes)) ≡ n
@@ -185,7 +181,7 @@ between h b part n begun same = (
     by_left zero none is = ap (λ (l : List ℕ). head_of b ++ l) (begun.outside none).none ∙ append-nil (head_of b) ∙ none_of (head_of b) (omega (arith, same, is))
     by_left (suc k) some is =
         let inside = begun.inside (omega (arith, some)) in
-        absurd (omega (arith, same, is, ap length inside.head, header_long h (length part + b.left), size_least h))
+        absurd (omega (arith, same, is, ap length inside.head, length-header_of h (length part + b.left), size_least h))
 
 -- ---- no byte
 

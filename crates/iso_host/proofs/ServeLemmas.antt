@@ -9,15 +9,16 @@ use Rattle.iso_table.specs.Layout.{Layout}
 use Rattle.iso_wire.specs.declared.header.Header.{Header}
 use Rattle.iso_wire.specs.declared.header.Header.TheVariants.{Binary2, Ascii4, Bcd2}
 use Rattle.iso_wire.specs.Framing.{frame_of, frames_of, largest, NoFrame, is_bad_header, BadIsNoFrame, BadStays}
+use Rattle.iso_wire.proofs.FrameSplits.{frames_more, fit_more}
 use Rattle.iso_order.specs.declared.verdict.Verdict.{Verdict}
 use Rattle.iso_issuer.specs.Books.{Books}
 use Rattle.iso_issuer.specs.Laws.{FirstsGoOn, books_after}
 use Rattle.iso_host.proofs.JournalLemmas.{books_more, books_none}
-use Rattle.iso_host.proofs.OutputLemmas.{frames_more, AllFit_more, output_none, output_more, output_front, front_more}
+use Rattle.iso_host.proofs.OutputLemmas.{output_none, output_more, output_front, front_more}
 use Rattle.iso_host.proofs.Running.{AnswersPart, AnswersWhole, Going, Running}
 use Rattle.iso_host.proofs.StreamLemmas.{flushed_more, flushed_so, waits_behind}
 use Rattle.iso_host.specs.Asking.{message_in, asked_of, count_asked, has_answer, is_silent, is_unreadable}
-use Rattle.iso_host.specs.Counts.{Counts, Stream, Usage, stream, usage}
+use Rattle.iso_host.specs.Counts.{Counts, Stream, Usage, usage}
 use Rattle.iso_host.specs.Entering.{books_after_bodies}
 use Rattle.iso_host.specs.Handling.{books_after_body}
 use Rattle.iso_host.specs.Output.{IsAnswer, IsOutput}
@@ -25,7 +26,7 @@ use Rattle.iso_host.specs.Hosting.{Answers, Replying}
 use Rattle.iso_host.specs.Links.{Agreed}
 use Rattle.iso_host.specs.NextFrame.{EndsBefore, Taking}
 use Rattle.iso_host.specs.Reading.{EndsInside, Reading, to_come}
-use Rattle.iso_host.specs.Serving.{Serves, Leaves, IsCut, Reports, IsFlushed, LastWaits, Flushes, Sending, Standing, sending, standing, standing_of}
+use Rattle.iso_host.specs.Serving.{Serves, Leaves, IsCut, Reports, IsFlushed, LastWaits, Flushes, Sending, sending, standing, standing_of}
 use Rattle.iso_host.specs.Reporting.{ReportsOneMore, count_with}
 use Rattle.iso_host.specs.Answering.{FlushesAll, SpendsOnWrite, WritesPart}
 use Rattle.iso_host.specs.Turns.{Spends, TakesTurns}
@@ -39,7 +40,7 @@ taken_behind None r taken window read = tt
 taken_behind (Some x) None taken window read = absurd read
 taken_behind (Some x) (Some y) taken window read = read ∙ sym (append_assoc taken window y)
 
-none_taken : (a b : Option (List ℕ)) → Keeps a b → Consumes a b []
+pub none_taken : (a b : Option (List ℕ)) → Keeps a b → Consumes a b []
 none_taken None b kept = tt
 none_taken (Some x) None kept = absurd kept
 none_taken (Some x) (Some y) kept = sym kept
@@ -130,7 +131,7 @@ module _ (l : Agreed) (start now : Sending) (bodies : List (List ℕ)) (serves :
         → AnswersWhole l now.books new (message_in l.table body) now.writer after → Serves l (standing_of start) (standing next after.bytes new) (bodies ++ body ∷ []) []
     serves_more next after new body taken fits whole = record {
       read = read_more next body taken;
-      fit = AllFit_more l.header bodies body serves.fit fits;
+      fit = fit_more l.header bodies body serves.fit fits;
       books = entered_more new body whole.entered;
       bytes = serves.bytes ++ whole.bytes;
       output = output_more l.table l.header start.books bodies body serves.bytes whole.bytes serves.output (answer_more body whole.bytes whole.answer);
@@ -147,7 +148,7 @@ module _ (l : Agreed) (start now : Sending) (bodies : List (List ℕ)) (serves :
       record {
         read = subst (Consumes start.unread left) (ap (λ (k : List ℕ). k ++ window) (append-nil (frames_of l.header (bodies ++ body ∷ []))))
             (taken_behind start.unread left (frames_of l.header (bodies ++ body ∷ []) ++ []) window (read_more (prepend_known window left) body taken));
-        fit = AllFit_more l.header bodies body serves.fit fits;
+        fit = fit_more l.header bodies body serves.fit fits;
         books = entered_more new body enters;
         bytes = serves.bytes ++ take some.count answer;
         answers = Appends-trans start.writer.bytes now.writer.bytes after.bytes _ _ serves.answers some.appends;
@@ -173,7 +174,7 @@ module _ (l : Agreed) (start now : Sending) (bodies : List (List ℕ)) (serves :
       more,
       record {
         read = subst (Consumes start.unread left) (ap (λ (k : List ℕ). frames_of l.header bodies ++ k) is ∙ sym (frames_more l.header bodies body more)) (read_part left window part taken);
-        fit = AllFit_more l.header bodies body serves.fit fits;
+        fit = fit_more l.header bodies body serves.fit fits;
         books = entered_more new body enters;
         bytes = serves.bytes;
         answers = serves.answers;

@@ -6,14 +6,13 @@ use Rattle.std.proofs.lemmas.Bool.{eqb-true, eqb-false, eq-eqb, leb-true, leb-fa
 use Rattle.std.proofs.lemmas.Grind.{flat_map-append}
 use Rattle.std.proofs.lemmas.List.{take-append-le, map-append}
 use Rattle.std.proofs.lemmas.List.Elements.{filter-append}
-use Rattle.iso_table.specs.Layout.{Layout}
 use Rattle.iso_wire.specs.declared.header.Header.{Header}
 use Rattle.iso_wire.specs.Framing.{frame_of, frames_of, largest, NoFrame, Splits}
+use Rattle.iso_wire.proofs.FrameSplits.{frames_more, fit_more}
 use Rattle.iso_issuer.specs.Books.{Books}
 use Rattle.iso_order.specs.Order.{Instruction}
 use Rattle.iso_issuer.specs.Journal.{firsts}
 use Rattle.iso_issuer.specs.Laws.{FirstsGoOn, books_after}
-use Rattle.iso_host.proofs.OutputLemmas.{frames_more, AllFit_more}
 use Rattle.iso_host.proofs.ServeLemmas.{no_byte}
 use Rattle.iso_host.specs.Entering.{books_after_bodies}
 use Rattle.iso_host.specs.Handling.{books_after_body}
@@ -40,7 +39,7 @@ split_ended h bytes piece bodies rest kept body split is fits none = record {
   joined = ap (λ (l : List ℕ). l ++ piece) split.joined ∙ append_assoc (frames_of h bodies) rest piece
       ∙ ap (λ (l : List ℕ). frames_of h bodies ++ l) (is ∙ sym (append-nil (frame_of h body)))
       ∙ sym (frames_more h bodies body []) ∙ ap (λ (l : List ℕ). frames_of h (bodies ++ body ∷ []) ++ l) (sym none);
-  fit = AllFit_more h bodies body split.fit fits;
+  fit = fit_more h bodies body split.fit fits;
   partial = subst (NoFrame h) (sym none) (no_byte h);
 }
 

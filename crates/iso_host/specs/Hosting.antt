@@ -1,5 +1,5 @@
 -- A host without streams: what answering one body leaves, and what a log may tell of it.
-use Rattle.std.specs.Prelude.{◌≡◌, ◌⊎◌, ℕ, ◌<◌, List, ◌++◌, length, Option, Some, None, Err}
+use Rattle.std.specs.Prelude.{◌≡◌, ℕ, ◌<◌, List, ◌++◌, length, Option, Some, Err}
 use Rattle.iso_table.specs.Layout.{Layout}
 use Rattle.iso_wire.specs.declared.header.Header.{Header}
 use Rattle.iso_wire.specs.Contents.{Contents}
@@ -7,7 +7,6 @@ use Rattle.iso_wire.specs.Reading.{message_at, whole}
 use Rattle.iso_order.specs.Order.{Instruction}
 use Rattle.iso_order.specs.declared.verdict.Verdict.{Verdict}
 use Rattle.iso_order.specs.declared.verdict.Verdict.TheVariants as asks
-use Rattle.iso_order.specs.Verdict.{verdict}
 use Rattle.iso_issuer.specs.Books.{Books}
 use Rattle.iso_host.specs.Asking.{asked_of, message_in}
 use Rattle.iso_host.specs.Handling.{entered_by, books_after_body}

@@ -1,7 +1,5 @@
 -- Any number of peers at one host, each on its own link, in any interleaving.
 use Rattle.std.specs.Prelude.{◌≡◌, ◌≢◌, ◌==◌, ℕ, ◌≤◌, Bool, true, false, List, [], ◌∷◌, ◌++◌, length, take, map, flat_map, filter, ◌&&◌, Option, Result, Ok, Err, IsOk}
-use Rattle.iso_table.specs.Layout.{Layout}
-use Rattle.iso_wire.specs.declared.header.Header.{Header}
 use Rattle.iso_wire.specs.Framing.{Splits}
 use Rattle.iso_order.specs.Order.{Instruction}
 use Rattle.iso_issuer.specs.Books.{Books}

@@ -1,6 +1,6 @@
 -- One step of a peer, as its callers see it.
 -- Inner: bodies and proofs cite it, and no public clause does.
-use Rattle.std.specs.Prelude.{ℕ, Bool, true, false, Option, Some, None}
+use Rattle.std.specs.Prelude.{Bool, true, false, Option, Some, None}
 use Rattle.iso_host.specs.declared.handled.Handled.{Handled}
 use Rattle.iso_host.specs.declared.peer.Taken.{Taken}
 use Rattle.iso_host.specs.declared.taking.Step.{Step}

@@ -1,8 +1,8 @@
 -- How answers stay where orders follow, and what a host that is alone keeps where an order comes.
-use Rattle.std.proofs.Common.{◌≡◌, ℕ, Bool, true, false, refl, arith, ap, sym, ◌∙◌}
+use Rattle.std.proofs.Common.{◌≡◌, Bool, true, false, refl, arith, ap, sym, ◌∙◌}
 use Rattle.std.proofs.Common.{subst, List, [], ◌∷◌, ◌++◌, length, append_assoc, length-append}
-use Rattle.std.specs.Prelude.{◌||◌, Option, Some, None, is_some, nat_le, if◌then◌else◌}
-use Rattle.std.specs.List.{AllByRecursion, list_any}
+use Rattle.std.specs.Prelude.{Option, Some, None, is_some, nat_le, if◌then◌else◌}
+use Rattle.std.specs.List.{AllByRecursion}
 use Rattle.iso_order.specs.Order.{Instruction, same_order}
 use Rattle.iso_order.specs.Outcome.{code_alone}
 use Rattle.iso_issuer.specs.declared.account.Account.{Account}
@@ -87,31 +87,6 @@ module _ (laws : IssuerLaws) (accounts : List Account) where
       is_none : (f : Option Entry) → is_some f ≡ false → f ≡ None
       is_none None h = refl
       is_none (Some e) h = cc
-
--- ---- distinct keys
-
-any_front : {X : Type 0} (f : X → Bool) (xs ys : List X)
-    → list_any f (xs ++ ys) ≡ false → list_any f xs ≡ false
-any_front f [] ys h = refl
-any_front f (x ∷ xs) ys h = by_test (f x) h (any_front f xs ys)
-  where
-    by_test : (b : Bool) → (b || list_any f (xs ++ ys)) ≡ false
-        → (list_any f (xs ++ ys) ≡ false → list_any f xs ≡ false)
-        → (b || list_any f xs) ≡ false
-    by_test true e rest = e
-    by_test false e rest = rest e
-
-distinct_front : (xs ys : List Instruction) → HasDistinctKeys (xs ++ ys) → HasDistinctKeys xs
-distinct_front [] ys h = tt
-distinct_front (x ∷ xs) ys h = (any_front _ xs ys h.0, distinct_front xs ys h.1)
-
--- a front of what a host can start on
-pub start_front : (limit : ℕ) (xs ys : List Instruction) → IsStart limit (xs ++ ys)
-    → IsStart limit xs
-start_front limit xs ys h = record {
-  once = distinct_front xs ys h.once;
-  few = omega (arith, length-append xs ys, h.few);
-}
 
 -- ---- a host that is alone
 

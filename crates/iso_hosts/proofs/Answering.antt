@@ -1,9 +1,10 @@
 -- The answers of a call are told in its run.
-use Rattle.std.proofs.Common.{◌≡◌, ◌⊎◌, inl, inr, ℕ, zero, suc, Bool, true, false, refl}
+use Rattle.std.proofs.Common.{◌≡◌, ◌⊎◌, inl, inr, ℕ, suc, Bool, true, false, refl}
 use Rattle.std.proofs.Common.{ap, sym, ◌∙◌, subst, List, [], ◌∷◌, ◌++◌, length}
-use Rattle.std.specs.Prelude.{Some, None, slice_get, if◌then◌else◌}
+use Rattle.std.specs.Prelude.{None, if◌then◌else◌}
 use Rattle.iso_order.specs.Order.{Instruction}
 use Rattle.iso_order.specs.Outcome.{Outcome, code_alone}
+use Rattle.iso_order.proofs.Lists.{at-more, get-last}
 use Rattle.iso_issuer.specs.Journal.{is_entered}
 use Rattle.iso_issuer.specs.Books.{is_full, journal}
 use Rattle.iso_issuer.specs.Decision.{answer_for}
@@ -13,26 +14,20 @@ use Rattle.iso_hosts.specs.World.{World, Host, Event, seen_by, doubted, alone, h
 use Rattle.iso_hosts.specs.World.{known_answer, decides, receives, to_send, after_events}
 use Rattle.iso_hosts.specs.Laws.{syncing, IsAmong, AreTold}
 use Rattle.iso_hosts.proofs.Alone.{IssuerLaws, stays}
-use Rattle.iso_hosts.proofs.Batches.{get_last, self_same}
+use Rattle.iso_hosts.proofs.Batches.{self_same}
 use Rattle.iso_hosts.proofs.Calls.{sync_succeeds, Received, received, same_syncing}
 
 -- ---- what is among answers
 
-at_more : {X : Type 0} (xs ys : List X) (i : ℕ) (x : X) → slice_get xs i ≡ Some x
-    → slice_get (xs ++ ys) i ≡ Some x
-at_more [] ys i x h = cc
-at_more (y ∷ xs) ys zero x h = h
-at_more (y ∷ xs) ys (suc i) x h = at_more xs ys i x h
-
 among_front : (ts us : List Told) (t : Told) → IsAmong ts t → IsAmong (ts ++ us) t
-among_front ts us t at = (at.0, at_more ts us at.0 t at.1)
+among_front ts us t at = (at.0, at-more ts us at.0 t at.1)
 
 among_back : (ts us : List Told) (t : Told) → IsAmong us t → IsAmong (ts ++ us) t
 among_back [] us t at = at
 among_back (x ∷ ts) us t at = let rest = among_back ts us t at in (suc rest.0, rest.1)
 
 among_last : (ts : List Told) (t : Told) → IsAmong (ts ++ t ∷ []) t
-among_last ts t = (length ts, get_last ts t)
+among_last ts t = (length ts, get-last ts t)
 
 -- ---- a host that is alone
 

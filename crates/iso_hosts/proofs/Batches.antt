@@ -1,5 +1,5 @@
 -- The orders of batches, and what may follow them in the log.
-use Rattle.std.proofs.Common.{◌≡◌, ◌≤◌, ℕ, zero, suc, ◌+◌, true, refl, arith, ap, sym, ◌∙◌}
+use Rattle.std.proofs.Common.{◌≡◌, ◌≤◌, ℕ, ◌+◌, true, refl, arith, ap, sym, ◌∙◌}
 use Rattle.std.proofs.Common.{subst, List, [], ◌∷◌, ◌++◌, length, take, drop}
 use Rattle.std.proofs.Common.{append_assoc, append-nil, length-append, take-append-drop}
 use Rattle.std.specs.Prelude.{◌&&◌, ◌==◌, Some, slice_get, get_or}
@@ -10,25 +10,11 @@ use Rattle.std.proofs.lemmas.List.{take-append-le, take_more}
 use Rattle.std.proofs.lemmas.Option.{slice_get_within, get_or_from_slice_get}
 use Rattle.iso_order.specs.Order.{Instruction, same_order}
 use Rattle.iso_durable.specs.World.{IsStart}
+use Rattle.iso_durable.proofs.Distinct.{start_front}
 use Rattle.iso_hosts.specs.World.{Batch, orders_in, same_orders, same_batch}
-use Rattle.iso_hosts.proofs.Alone.{IssuerLaws, start_front}
+use Rattle.iso_hosts.proofs.Alone.{IssuerLaws}
 
 -- ---- lists
-
-pub all_push : {X : Type 0} (P : X → Type 0) (xs : List X) (x : X)
-    → AllByRecursion P xs → P x → AllByRecursion P (xs ++ x ∷ [])
-all_push P [] x h k = (k, tt)
-all_push P (y ∷ ys) x h k = (h.0, all_push P ys x h.1 k)
-
-pub all_at : {X : Type 0} (P : X → Type 0) (xs : List X) (i : ℕ) (x : X)
-    → AllByRecursion P xs → slice_get xs i ≡ Some x → P x
-all_at P [] i x h e = cc
-all_at P (y ∷ ys) zero x h e = let same : y ≡ x = cc in subst P same h.0
-all_at P (y ∷ ys) (suc i) x h e = all_at P ys i x h.1 e
-
-pub get_last : {X : Type 0} (xs : List X) (x : X) → slice_get (xs ++ x ∷ []) (length xs) ≡ Some x
-get_last [] x = refl
-get_last (y ∷ ys) x = get_last ys x
 
 pub self_same : (n : ℕ) → (n == n) ≡ true
 self_same n = grind (arith, nat_tests)

@@ -7,6 +7,7 @@ use Rattle.std.proofs.lemmas.List.{take-append-le}
 use Rattle.iso_order.specs.declared.key.TxKey.{TxKey}
 use Rattle.iso_order.specs.Key.{same_key}
 use Rattle.iso_order.specs.Order.{Instruction}
+use Rattle.iso_order.proofs.Lists.{get-last}
 use Rattle.iso_issuer.specs.Journal.{is_entered}
 use Rattle.iso_durable.specs.Durable.{Durable, entered, comes, come_all, syncs}
 use Rattle.iso_hosts.specs.World.{World, Batch, Event, orders_in, seen_by, doubted}
@@ -16,7 +17,7 @@ use Rattle.iso_hosts.specs.World.{decides, receives, to_send, left_behind, batch
 use Rattle.iso_hosts.specs.World.{tells, after_event, after_events}
 use Rattle.iso_hosts.specs.Laws.{syncing}
 use Rattle.iso_hosts.proofs.Alone.{IssuerLaws}
-use Rattle.iso_hosts.proofs.Batches.{get_last, self_same, seen_more, same_batch_self}
+use Rattle.iso_hosts.proofs.Batches.{self_same, seen_more, same_batch_self}
 
 -- ---- a start
 
@@ -72,10 +73,10 @@ module _ (laws : IssuerLaws) (w : World) (n : ℕ) (all : (w.hosts n).seen ≡ l
   pub syncs_so : after_events (syncing w n []) w ≡ synced w n
   syncs_so =
       let b : Batch = batch_of n (w.hosts n) in
-      let there : slice_get (w.sent ++ b ∷ []) (length w.sent) ≡ Some b = get_last w.sent b in
+      let there : slice_get (w.sent ++ b ∷ []) (length w.sent) ≡ Some b = get-last w.sent b in
       let next : ((w.hosts n).seen == length w.kept) ≡ true = grind (arith, nat_tests, all) in
       let found : slice_get (w.kept ++ b ∷ []) (w.hosts n).seen ≡ Some b =
-      ap (slice_get (w.kept ++ b ∷ [])) all ∙ get_last w.kept b in
+      ap (slice_get (w.kept ++ b ∷ [])) all ∙ get-last w.kept b in
       rw (there, next, self_same n, found, same_batch_self laws b) refl
 
   pub sync_succeeds :
@@ -91,7 +92,7 @@ module _ (laws : IssuerLaws) (w : World) (n : ℕ) (all : (w.hosts n).seen ≡ l
       let h = w.hosts n in
       let b : Batch = batch_of n h in
       let found : slice_get (w.kept ++ b ∷ []) h.seen ≡ Some b =
-      ap (slice_get (w.kept ++ b ∷ [])) all ∙ get_last w.kept b in
+      ap (slice_get (w.kept ++ b ∷ [])) all ∙ get-last w.kept b in
       let now : orders_in (take (h.seen + 1) (w.kept ++ b ∷ [])) ≡ seen_by w h ++ b.orders =
       seen_more (w.kept ++ b ∷ []) h.seen b found
       ∙ ap (λ (l : List Batch). orders_in l ++ b.orders)

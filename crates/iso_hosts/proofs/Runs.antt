@@ -5,6 +5,7 @@ use Rattle.std.specs.Prelude.{◌==◌, Option, Some, None, slice_get, if◌then
 use Rattle.std.specs.List.{AllByRecursion}
 use Rattle.std.proofs.lemmas.Bool.Decides.{nat_tests}
 use Rattle.iso_order.specs.Order.{Instruction}
+use Rattle.iso_order.proofs.Lists.{all-at}
 use Rattle.iso_issuer.specs.declared.account.Account.{Account}
 use Rattle.iso_issuer.specs.Journal.{is_entered}
 use Rattle.iso_issuer.specs.Decision.{journal_of, answer_for}
@@ -15,7 +16,7 @@ use Rattle.iso_hosts.specs.World.{receives, batch_of, arrives, same_batch}
 use Rattle.iso_hosts.specs.World.{tells, forgets, finds, reads}
 use Rattle.iso_hosts.specs.World.{after_event, after_events, log_begins}
 use Rattle.iso_hosts.proofs.Alone.{IssuerLaws, AllAnswered}
-use Rattle.iso_hosts.proofs.Batches.{all_at, all_within}
+use Rattle.iso_hosts.proofs.Batches.{all_within}
 use Rattle.iso_hosts.proofs.Sound.{IsSound, events_sound, begins_sound}
 
 -- the log only grows, and the accounts and the limit stay
@@ -130,9 +131,9 @@ module _ (laws : IssuerLaws) (accounts : List Account) (limit : ℕ) (kept : Lis
   agree i j t u ti uj one =
       let w = after_events events (log_begins accounts limit kept) in
       let first : IsAnswered accounts (orders_in w.kept) t =
-      all_at (IsAnswered accounts (orders_in w.kept)) w.told i t all_told ti in
+      all-at (IsAnswered accounts (orders_in w.kept)) w.told i t all_told ti in
       let second : IsAnswered accounts (orders_in w.kept) u =
-      all_at (IsAnswered accounts (orders_in w.kept)) w.told j u all_told uj in
+      all-at (IsAnswered accounts (orders_in w.kept)) w.told j u all_told uj in
       sym first.same
       ∙ ap (answer_for accounts (journal_of accounts (orders_in w.kept))) one
       ∙ second.same

@@ -7,9 +7,11 @@ use Rattle.std.proofs.lemmas.Bool.Decides.{nat_tests}
 use Rattle.std.proofs.lemmas.List.{take-append-le, take_all}
 use Rattle.std.proofs.lemmas.Option.{slice_get_within}
 use Rattle.iso_order.specs.Order.{Instruction}
+use Rattle.iso_order.proofs.Lists.{all-push, all-at}
 use Rattle.iso_issuer.specs.declared.account.Account.{Account}
 use Rattle.iso_issuer.specs.Journal.{is_entered}
 use Rattle.iso_durable.specs.World.{Told, Comes, happens, IsAnswered, IsStart}
+use Rattle.iso_durable.proofs.Distinct.{start_front}
 use Rattle.iso_hosts.specs.World.{World, Batch, Decisions, Host, Event, orders_in, seen_by, doubted}
 use Rattle.iso_hosts.specs.World.{Receives, Sends, Arrives, Reads, Restarts}
 use Rattle.iso_hosts.specs.World.{alone, fresh, with_host, known_answer, decides, receives}
@@ -18,9 +20,9 @@ use Rattle.iso_hosts.specs.World.{tells, forgets, finds, reads}
 use Rattle.iso_hosts.specs.World.{after_event, after_events, log_begins}
 use Rattle.iso_hosts.proofs.Alone.{IssuerLaws, AllAnswered, IsSoundAlone}
 use Rattle.iso_hosts.proofs.Alone.{stays, all_stay, all_append}
-use Rattle.iso_hosts.proofs.Alone.{comes_sound, start_front}
-use Rattle.iso_hosts.proofs.Batches.{MayFollow, AllMayFollow, all_follow_on, beginning, all_push}
-use Rattle.iso_hosts.proofs.Batches.{all_at, in_one_more, split_at, seen_more, same_batch_is}
+use Rattle.iso_hosts.proofs.Alone.{comes_sound}
+use Rattle.iso_hosts.proofs.Batches.{MayFollow, AllMayFollow, all_follow_on, beginning}
+use Rattle.iso_hosts.proofs.Batches.{in_one_more, split_at, seen_more, same_batch_is}
 
 -- the answers in doubt are those that the orders in doubt give behind what was seen
 abbrev pub DoubtIsAnswered : List Account → List Instruction → Option Decisions → Type 0
@@ -135,7 +137,7 @@ module _ (laws : IssuerLaws) where
           else record w { hosts = with_host w.hosts n (decides w h o) })
       by_test true k = record {
         start = sound.start;
-        told = all_push (IsAnswered w.accounts (orders_in w.kept)) w.told _ sound.told
+        told = all-push (IsAnswered w.accounts (orders_in w.kept)) w.told _ sound.told
             (whole w.accounts w.kept h.seen _ (record { known = k; same = refl }));
         sent = sound.sent;
         hosts = sound.hosts;
@@ -185,7 +187,7 @@ module _ (laws : IssuerLaws) where
   sends_sound w n h host sound = record {
     start = sound.start;
     told = sound.told;
-    sent = all_push (λ (b : Batch). MayFollow w.limit w.kept b.place b.orders) w.sent _ sound.sent
+    sent = all-push (λ (b : Batch). MayFollow w.limit w.kept b.place b.orders) w.sent _ sound.sent
         (sends_follows w h.seen h.in_doubt h.behind host);
     hosts = hosts_with w.accounts w.limit w.kept w.hosts n _ sound.hosts
         (sent_sound w h.seen h.in_doubt h.behind host);
@@ -294,7 +296,7 @@ module _ (laws : IssuerLaws) where
   event_sound w (Sends n) sound = sends_sound w n (w.hosts n) (sound.hosts n) sound
   event_sound w (Arrives k) sound =
       arrives_sound w (slice_get w.sent k)
-      (λ b e. all_at (λ (b : Batch). MayFollow w.limit w.kept b.place b.orders) w.sent k b
+      (λ b e. all-at (λ (b : Batch). MayFollow w.limit w.kept b.place b.orders) w.sent k b
       sound.sent e) sound
   event_sound w (Reads n) sound =
       reads_sound w n (w.hosts n) (slice_get w.kept (w.hosts n).seen) refl (sound.hosts n) sound

@@ -1,5 +1,5 @@
 -- The steps by which the frames of an input are worked on.
-use Rattle.std.specs.Prelude.{◌≡◌, ℕ, ◌≤◌, ◌||◌, Bool, true, false, not, List, [], ◌++◌, length, Option, IfSome}
+use Rattle.std.specs.Prelude.{◌≡◌, ℕ, ◌≤◌, ◌||◌, Bool, true, false, not, List, [], ◌++◌, length, IfSome}
 use Rattle.std.specs.Io.KnownBytes.{Appends, Consumes}
 use Rattle.iso_wire.specs.Framing.{NeedsMore, NoFrame, frame_of, largest}
 use Rattle.iso_wire.specs.declared.header.Header.{Header}

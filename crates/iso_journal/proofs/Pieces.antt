@@ -1,55 +1,20 @@
 -- Pieces of a journal's records, as they are decided again.
-use Rattle.std.proofs.Common.{◌≡◌, ◌∙◌, ◌≤◌, ◌<◌, ℕ, zero, suc, ◌+◌, ◌*◌, refl, sym, ap, subst, arith, List, [], ◌∷◌, ◌++◌, length, append-nil, append_assoc}
-use Rattle.std.specs.Prelude.{slice_index}
-use Rattle.std.proofs.lemmas.List.{ext_get_or}
+use Rattle.std.proofs.Common.{◌≡◌, ◌∙◌, ◌≤◌, ◌<◌, ℕ, ◌+◌, ◌*◌, sym, ap, subst, arith, List, [], ◌∷◌, ◌++◌, length, append-nil, append_assoc}
 use Rattle.sqlite_disk.specs.Disk.{Holds}
 use Rattle.iso_order.specs.Order.{Instruction}
 use Rattle.iso_issuer.specs.declared.account.Account.{Account}
 use Rattle.iso_issuer.specs.Books.{Books}
-use Rattle.iso_log.specs.Slots.{slot, records_of}
+use Rattle.iso_log.specs.Slots.{slot, records_of, slots_from}
 use Rattle.iso_log.specs.Log.{IsFile}
 use Rattle.iso_log.proofs.Crash.{count_is}
-use Rattle.iso_log.proofs.Slots.{slot_at, slot_len}
 use Rattle.iso_journal.specs.Orders.{order_of, orders_of}
-use Rattle.iso_journal.specs.Pieces.{slots_from}
 use Rattle.iso_journal.specs.Written.{AreWritten, IsWritten}
 use Rattle.iso_journal.specs.Why.{IsDamaged}
-use Rattle.iso_journal.specs.Fronts.{orders_append}
-use Rattle.iso_journal.proofs.Replayed.{behind, one_more, written_more, written_last}
+use Rattle.iso_log.proofs.Fronts.{told_append}
+use Rattle.iso_log.proofs.Behind.{behind, one_more, next_slot, same_slot, same_slots, some_more}
+use Rattle.iso_journal.proofs.Replayed.{written_more, written_last}
 
--- ---- slots, one after another
-
-more_slots : (n j : ℕ) (bytes : List ℕ) → slots_from (n + 1) j bytes ≡ slots_from n j bytes ++ slot bytes (j + n) ∷ []
-more_slots zero j bytes = let at : j + 0 ≡ j = omega arith in ap (λ m. slot bytes m ∷ []) (sym at)
-more_slots (suc n) j bytes =
-    let at : j + 1 + n ≡ j + suc n = omega arith in
-    let more : suc n + 1 ≡ suc (n + 1) = omega arith in
-    ap (λ m. slots_from m j bytes) more
-    ∙ ap (λ (l : List (List ℕ)). slot bytes j ∷ l) (more_slots n (j + 1) bytes ∙ ap (λ m. slots_from n (j + 1) bytes ++ slot bytes m ∷ []) at)
-
-next_slot : (n : ℕ) (bytes : List ℕ) → slots_from (n + 1) 0 bytes ≡ slots_from n 0 bytes ++ slot bytes n ∷ []
-next_slot n bytes = let at : 0 + n ≡ n = omega arith in more_slots n 0 bytes ∙ ap (λ m. slots_from n 0 bytes ++ slot bytes m ∷ []) at
-
--- what was read of a file is what it has there
-module _ (count place : ℕ) (bytes file : List ℕ) (long : length bytes ≡ 128 * count) (holds : Holds file (128 * place) bytes) where
-  pub same_slot : (k : ℕ) → k < count → slot bytes k ≡ slot file (place + k)
-  same_slot k lt =
-      let len = slot_len file (place + k) (omega (arith, holds.within, long, lt)) in
-      let len_piece = slot_len bytes k (omega (arith, long, lt)) in
-      ext_get_or 0 (slot bytes k) (slot file (place + k)) (len_piece ∙ sym len) (λ i below.
-      let short : i < 128 = omega (arith, below, len_piece) in
-      let at : 128 * place + (128 * k + i) ≡ 128 * (place + k) + i = omega arith in
-      slot_at bytes k i short ∙ sym (holds.each (128 * k + i) (omega (arith, long, lt, short))) ∙ ap (λ m. slice_index file m) at ∙ sym (slot_at file (place + k) i short))
-
-  same_from : (n j : ℕ) → j + n ≤ count → slots_from n j bytes ≡ slots_from n (place + j) file
-  same_from zero j le = refl
-  same_from (suc n) j le =
-      let at : place + (j + 1) ≡ place + j + 1 = omega arith in
-      ap (λ (s : List ℕ). s ∷ slots_from n (j + 1) bytes) (same_slot j (omega (arith, le)))
-      ∙ ap (λ (l : List (List ℕ)). slot file (place + j) ∷ l) (same_from n (j + 1) (omega (arith, le)) ∙ ap (λ m. slots_from n m file) at)
-
-  pub same_slots : (n : ℕ) → n ≤ count → slots_from n 0 bytes ≡ slots_from n place file
-  same_slots n le = let at : place + 0 ≡ place = omega arith in same_from n 0 (omega (arith, le)) ∙ ap (λ m. slots_from n m file) at
+-- ---- a piece, and the file
 
 -- what was told of a piece holds of the file
 module _ (count place n : ℕ) (bytes file : List ℕ) (long : length bytes ≡ 128 * count) (holds : Holds file (128 * place) bytes) (within : n ≤ count) (old : Books) where
@@ -76,7 +41,7 @@ module _ (old now : Books) (place : ℕ) (piece bytes : List ℕ) (is : bytes �
   one_entered orders entered =
       let before = slots_from place 0 piece in
       entered ∙ ap (λ (l : List Instruction). l ++ order_of bytes ∷ []) orders_are ∙ append_assoc old.orders (orders_of before) (order_of bytes ∷ [])
-      ∙ ap (λ (l : List Instruction). old.orders ++ l) (sym (orders_append before (bytes ∷ [])) ∙ ap (λ (b : List ℕ). orders_of (before ++ b ∷ [])) is ∙ ap orders_of (sym (next_slot place piece)))
+      ∙ ap (λ (l : List Instruction). old.orders ++ l) (sym (told_append order_of before (bytes ∷ [])) ∙ ap (λ (b : List ℕ). orders_of (before ++ b ∷ [])) is ∙ ap orders_of (sym (next_slot place piece)))
 
   moved : IsWritten now.accounts now.limit now.orders bytes → IsWritten old.accounts old.limit (old.orders ++ orders_of (slots_from place 0 piece)) (slot piece place)
   moved h =
@@ -99,16 +64,6 @@ written_on accounts limit before [] ys h is = subst (λ (l : List Instruction). 
 written_on accounts limit before (x ∷ xs) ys h is =
     (h.0, written_on accounts limit (before ++ order_of x ∷ []) xs ys h.1 (subst (λ (l : List Instruction). AreWritten accounts limit l ys) (sym (append_assoc before (order_of x ∷ []) (orders_of xs))) is))
 
-some_more : (slots count : ℕ) (file : List ℕ) → IsFile slots count file → (n place : ℕ) → place + n ≤ count → 1 ≤ place → behind (place + n) file ≡ behind place file ++ slots_from n place file
-some_more slots count file is zero place le least =
-    let at : place + 0 ≡ place = omega arith in
-    ap (λ m. behind m file) at ∙ sym (append-nil (behind place file))
-some_more slots count file is (suc n) place le least =
-    let at : place + suc n ≡ place + 1 + n = omega arith in
-    ap (λ m. behind m file) at ∙ some_more slots count file is n (place + 1) (omega (arith, le)) (omega arith)
-    ∙ ap (λ (l : List (List ℕ)). l ++ slots_from n (place + 1) file) (one_more slots count file place is (omega (arith, le)) least)
-    ∙ append_assoc (behind place file) (slot file place ∷ []) (slots_from n (place + 1) file)
-
 module _ (slots count : ℕ) (file : List ℕ) (place n : ℕ) (is : IsFile slots count file) (le : place + n ≤ count) (least : 1 ≤ place)
     (accounts : List Account) (limit : ℕ) (old : Books) (accounts_are : old.accounts ≡ accounts) (limit_is : old.limit ≡ limit) (orders_are : old.orders ≡ orders_of (behind place file)) where
   next : behind (place + n) file ≡ behind place file ++ slots_from n place file
@@ -116,7 +71,7 @@ module _ (slots count : ℕ) (file : List ℕ) (place n : ℕ) (is : IsFile slot
 
   all_orders : old.orders ++ orders_of (slots_from n place file) ≡ orders_of (behind (place + n) file)
   all_orders =
-      ap (λ (l : List Instruction). l ++ orders_of (slots_from n place file)) orders_are ∙ sym (orders_append (behind place file) (slots_from n place file)) ∙ ap orders_of (sym next)
+      ap (λ (l : List Instruction). l ++ orders_of (slots_from n place file)) orders_are ∙ sym (told_append order_of (behind place file) (slots_from n place file)) ∙ ap orders_of (sym next)
 
   pub some_entered : (orders : List Instruction) → orders ≡ old.orders ++ orders_of (slots_from n place file) → orders ≡ orders_of (behind (place + n) file)
   some_entered orders entered = entered ∙ all_orders

@@ -1,6 +1,7 @@
 //! A new journal.
 ghost use Rattle.std.specs.Prelude.{◌≡◌, [], IfOk, IsTrue};
-ghost use Rattle.iso_journal.specs.Orders.{IsReady, synced_orders, pending_orders};
+ghost use Rattle.iso_log.specs.Headed.{IsReady};
+ghost use Rattle.iso_journal.specs.Orders.{synced_orders, pending_orders};
 
 use crate::journal::JournalLog;
 use iso_log::{LogError, make};

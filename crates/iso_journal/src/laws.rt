@@ -1,9 +1,10 @@
 //! What holds over a crash: a function that does no more than another, and whose contract is a law.
 ghost use Rattle.std.specs.Prelude.{◌≡◌, ◌≤◌, ℕ, IfOk, IsTrue};
 ghost use Rattle.sqlite_disk.specs.Disk.{Only};
+ghost use Rattle.iso_log.specs.Headed.{IsReady};
 ghost use Rattle.iso_durable.specs.Durable.{crashes};
 ghost use Rattle.iso_durable.specs.Host.{IsConsistent, state_of};
-ghost use Rattle.iso_journal.specs.Orders.{IsReady, synced_orders, pending_orders};
+ghost use Rattle.iso_journal.specs.Orders.{synced_orders, pending_orders};
 
 use crate::error::OpenError;
 use crate::journal::JournalLog;

@@ -2,9 +2,10 @@
 ghost use Rattle.std.specs.Prelude.{◌≡◌, ◌≤◌, ◌<◌, ◌*◌, ◌^◌, [], ℕ, List, length, true, IfOk, OnOk, IfErr, IsTrue};
 ghost use Rattle.sqlite_disk.specs.Disk.{Only};
 ghost use Rattle.iso_record.specs.Heading.{heading_bytes};
+ghost use Rattle.iso_log.specs.Headed.{IsReady};
 ghost use Rattle.iso_log.specs.Slots.{records_of};
 ghost use Rattle.iso_durable.specs.Host.{IsConsistent};
-ghost use Rattle.iso_journal.specs.Orders.{journal_orders, IsReady, synced_orders, pending_orders};
+ghost use Rattle.iso_journal.specs.Orders.{journal_orders, synced_orders, pending_orders};
 ghost use Rattle.iso_journal.specs.Written.{IsReplayed};
 ghost use Rattle.iso_journal.specs.Why.{IsWhy, IsOther};
 

@@ -1,9 +1,8 @@
 //! The records of a journal, decided again.
 ghost use Rattle.std.specs.Prelude.{◌≡◌, ◌≤◌, ◌<◌, ◌+◌, ◌*◌, ◌/◌, ◌++◌, ◌∷◌, ◌^◌, [], ℕ, List, length, true, false, IfOk, OnOk, IfErr, IsTrue};
-ghost use Rattle.iso_log.specs.Slots.{slot, records_of};
+ghost use Rattle.iso_log.specs.Slots.{slot, records_of, slots_from};
 ghost use Rattle.iso_log.specs.Log.{IsFile};
 ghost use Rattle.iso_journal.specs.Orders.{order_of, orders_of, journal_orders};
-ghost use Rattle.iso_journal.specs.Pieces.{slots_from};
 ghost use Rattle.iso_journal.specs.Written.{IsWritten, AreWritten, IsReplayed};
 ghost use Rattle.iso_journal.specs.Why.{IsPlain, IsReplayFault};
 

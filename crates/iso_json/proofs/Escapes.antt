@@ -1,6 +1,6 @@
 -- What stands between quotes for bytes: plain ones stand for themselves.
 use Rattle.std.proofs.Common.{◌≡◌, ℕ, zero, suc, ◌/◌, ◌%◌, ◌<◌, Bool, true, false, List, [], ◌∷◌, ◌++◌, replicate, length, take, drop, ◌-◌, append_assoc, refl, ap, inl, inr, arith, if◌then◌else◌}
-use Rattle.std.specs.Prelude.{◌&&◌, ◌||◌, ◌==◌, not, slice_index, codes}
+use Rattle.std.specs.Prelude.{◌&&◌, ◌||◌, ◌==◌, not, slice_index}
 use Rattle.std.specs.List.{flat_map, list_all}
 use Rattle.std.proofs.lemmas.Bool.{and_parts, cases_lt}
 use Rattle.hex.specs.Hex.{IsBytes, encode_upper, encode_with, upper_digits}

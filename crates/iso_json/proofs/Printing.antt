@@ -1,17 +1,17 @@
 -- The JSON of a message in clear is the text of its object's tokens.
-use Rattle.std.proofs.Common.{◌≡◌, ℕ, ◌+◌, ◌/◌, ◌%◌, ◌<◌, ◌≤◌, Bool, true, false, List, [], ◌∷◌, ◌++◌, Option, Some, None, refl, ap, sym, ◌∙◌, arith, append_assoc, append-nil}
+use Rattle.std.proofs.Common.{◌≡◌, ℕ, ◌+◌, ◌/◌, ◌%◌, ◌<◌, Bool, true, false, List, [], ◌∷◌, ◌++◌, Option, Some, None, refl, ap, sym, ◌∙◌, arith, append_assoc}
 use Rattle.std.specs.Prelude.{◌&&◌, ◌==◌, not, if◌then◌else◌, length, codes, decimal, unwrap_or}
 use Rattle.std.specs.List.{flat_map, list_all}
 use Rattle.std.specs.Str.{IsUtf8}
-use Rattle.std.proofs.lemmas.Bool.{agree_below_at, and_from, and_parts, eqb-true}
+use Rattle.std.proofs.lemmas.Bool.{agree_below_at, and_parts, eqb-true}
 use Rattle.std.proofs.lemmas.Str.{IsUtf8-from_ascii}
 use Rattle.std.specs.Fmt.{digits}
-use Rattle.json.specs.Json.{Json, string, object, Members, no_members, member}
+use Rattle.json.specs.Json.{string}
 use Rattle.json.specs.Token.{Token}
 use Rattle.json.specs.Print.{escape, escape_byte, print, print_from, quoted, separator}
 use Rattle.json.specs.Tree.{json_tokens, members_tokens}
 use Rattle.iso_parts.specs.Digits.{four_digits_of}
-use Rattle.iso_parts.specs.Spec.{has_pad_end, is_length, refusal}
+use Rattle.iso_parts.specs.Spec.{has_pad_end, is_length}
 use Rattle.iso_parts.specs.declared.fault.FieldFault.TheVariants.{WrongLength, NotInClass, PadEnd}
 use Rattle.iso_parts.specs.Class.{is_in_class}
 use Rattle.iso_parts.specs.declared.digits.Digits.TheVariants.{Ascii}

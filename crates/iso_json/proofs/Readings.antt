@@ -1,6 +1,6 @@
 -- What a document says, from what its JSON value says.
-use Rattle.std.proofs.Common.{◌≡◌, ◌≢◌, ℕ, false, List, [], ◌∷◌, ◌++◌, Option, Some, None, Result, Ok, Err, inl, inr, refl, subst, sym, ap, ◌∙◌}
-use Rattle.std.specs.Prelude.{IfErr, IfOk, Vec, ◌⊎◌}
+use Rattle.std.proofs.Common.{◌≡◌, ◌≢◌, ℕ, false, List, [], ◌++◌, Option, Some, Result, Ok, Err, inl, inr, refl, subst, sym, ap, ◌∙◌}
+use Rattle.std.specs.Prelude.{IfErr, IfOk, Vec}
 use Rattle.std.specs.declared.alloc.Global.{Global}
 use Rattle.json.specs.Find.{get_member}
 use Rattle.std.specs.Str.{IsUtf8}
@@ -12,7 +12,7 @@ use Rattle.iso_json.specs.declared.complaint.Refusal.{Refusal}
 use Rattle.iso_json.specs.declared.complaint.Refusal.TheVariants as refusals
 use Rattle.iso_json.specs.declared.complaint.Place.TheVariants as places
 use Rattle.iso_json.specs.declared.complaint.Trouble.{Trouble}
-use Rattle.iso_json.specs.Said.{AreOf, ArisesFrom, IsMessage, IsNotJson, IsNotJsonAt, IsNotObject, Reads, complaints_in, contents_of, elements_key, heard_in, mti_key, names_from, not_object}
+use Rattle.iso_json.specs.Said.{AreOf, IsMessage, IsNotJson, IsNotJsonAt, IsNotObject, Reads, complaints_in, contents_of, elements_key, heard_in, mti_key, names_from, not_object}
 use Rattle.iso_json.specs.Heard.{Heard, complained, or_zero, trouble_in, type_at, with_elements}
 
 -- what a value says, its text says

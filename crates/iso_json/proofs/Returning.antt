@@ -1,17 +1,15 @@
 -- The object of a message in clear says that very message.
-use Rattle.std.proofs.Common.{◌≡◌, ◌≢◌, ℕ, suc, ◌+◌, ◌-◌, ◌*◌, ◌/◌, ◌%◌, ◌<◌, ◌≤◌, Bool, true, false, List, [], ◌∷◌, ◌++◌, Option, Some, None, Result, Ok, Err, inl, inr, refl, ap, subst, sym, ◌∙◌, arith, append_assoc, append-nil}
-use Rattle.std.specs.Prelude.{◌&&◌, ◌||◌, ◌==◌, max, nat_le, nat_lt, if◌then◌else◌, decimal, option_and_then, IfOk, IfErr, MatchResult}
+use Rattle.std.proofs.Common.{◌≡◌, ℕ, ◌+◌, ◌-◌, ◌*◌, ◌/◌, ◌%◌, ◌<◌, ◌≤◌, Bool, true, false, List, [], ◌∷◌, ◌++◌, Option, Some, None, Result, Ok, Err, inl, inr, refl, ap, subst, sym, ◌∙◌, arith, append_assoc, append-nil}
+use Rattle.std.specs.Prelude.{◌||◌, ◌==◌, max, nat_le, if◌then◌else◌, decimal, option_and_then, IfOk, IfErr, MatchResult}
 use Rattle.std.proofs.lemmas.Bool.{and_from, eq-eqb, eqb-true, le-leb, lt-ltb, ne_eqb}
 use Rattle.hex.specs.Hex.{IsBytes}
 use Rattle.hex.proofs.HexLemmas.{decode_of-encode_upper}
-use Rattle.json.specs.Json.{Json, string, object, Members, no_members, member, document, max_depth}
-use Rattle.json.specs.Print.{print}
-use Rattle.json.specs.Tree.{HasNumbers, MembersHaveNumbers, depth, json_tokens, members_depth}
+use Rattle.json.specs.Json.{string, object, Members, no_members, member, document, max_depth}
+use Rattle.json.specs.Tree.{HasNumbers, MembersHaveNumbers, depth, members_depth}
 use Rattle.json.proofs.Printed.Trees.{document-print}
 use Rattle.iso_parts.specs.Class.{is_digit}
 use Rattle.iso_parts.specs.Digits.{four_digits_of}
 use Rattle.iso_parts.specs.Mti.{digits_in}
-use Rattle.iso_parts.specs.Spec.{refusal}
 use Rattle.iso_parts.specs.declared.class.CharClass.{CharClass}
 use Rattle.iso_parts.specs.declared.class.CharClass.TheVariants as classes
 use Rattle.iso_parts.specs.declared.digits.Digits.TheVariants.{Ascii}
@@ -31,10 +29,9 @@ use Rattle.iso_json.specs.declared.complaint.Trouble.{Trouble}
 use Rattle.iso_json.specs.declared.complaint.Trouble.TheVariants as troubles
 use Rattle.iso_json.specs.RoundTrip.{IsClearJson, clear_members, clear_object}
 use Rattle.std.specs.Str.{IsUtf8}
-use Rattle.iso_json.specs.Said.{AreOf, ArisesFrom, IsMessage, Says, complaints_in, contents_of, elements_key, heard_in, mti_key}
+use Rattle.iso_json.specs.Said.{AreOf, ArisesFrom, IsMessage, complaints_in, contents_of, elements_key, heard_in, mti_key}
 use Rattle.iso_json.specs.Heard.{Heard, also, complained, entry_value, none_seen, or_zero, seen_with, trouble_in, type_at, type_of, with_entries, with_entry, with_value}
 use Rattle.iso_json.specs.Texts.{bytes_of, decoded, element_number, fitting, number_of, unless_refused, value_of}
-use Rattle.iso_json.specs.Written.{json_of}
 use Rattle.iso_json.proofs.Printing.{json_printed, json_utf8, number_read}
 use Rattle.iso_json.proofs.Ready.{AreReady, IsReady, are_ready}
 

@@ -1,5 +1,5 @@
 -- The JSON of a message in clear says that very message.
-use Rattle.std.specs.Prelude.{◌≡◌, ℕ, ◌++◌, Bool, false, true, List, [], ◌∷◌, Option, None, Result, MatchResult, decimal}
+use Rattle.std.specs.Prelude.{◌≡◌, ℕ, false, true, List, [], ◌∷◌, Option, None, Result, MatchResult, decimal}
 use Rattle.json.specs.Json.{Json, string, object, Members, no_members, member}
 use Rattle.iso_parts.specs.Digits.{four_digits_of}
 use Rattle.iso_parts.specs.declared.digits.Digits.TheVariants.{Ascii}

@@ -17,7 +17,7 @@ use Rattle.iso_peers.specs.declared.fault.TurnFault.{TurnFault}
 use Rattle.iso_peers.specs.declared.fault.TurnFault.TheVariants.{Log, BadHeader, Memory}
 use Rattle.iso_guard.specs.Guarding.{EntersAllowed}
 use Rattle.iso_lines.specs.Turn.{Heard, books_after_heard, EntersHeard}
-use Rattle.iso_lines.proofs.Pieces.{SoFar, body_alone}
+use Rattle.iso_peers.proofs.Pieces.{SoFar, body_alone}
 
 -- ---- books
 

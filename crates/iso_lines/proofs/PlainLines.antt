@@ -29,7 +29,7 @@ use Rattle.iso_lines.specs.declared.peer.Peer.{Peer}
 use Rattle.iso_lines.specs.declared.standing.Closing.{Closing}
 use Rattle.iso_lines.specs.Guarded.{guard_at, is_guarded}
 use Rattle.iso_lines.specs.Hearing.{growth, Dealing, dealing_by, dealing_of, HearsBytes, ended_of, ended_after}
-use Rattle.iso_lines.proofs.Pieces.{body_alone}
+use Rattle.iso_peers.proofs.Pieces.{body_alone}
 use Rattle.iso_lines.proofs.Turns.{ended_goes_on}
 use Rattle.iso_lines.proofs.Taken.{Made, made_all, made_one_more, made_heard, split_at, is_off, no_both}
 

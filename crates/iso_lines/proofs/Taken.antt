@@ -6,6 +6,7 @@ use Rattle.std.proofs.lemmas.Bool.{eq-eqb}
 use Rattle.std.proofs.lemmas.List.{take-append-drop}
 use Rattle.iso_wire.specs.declared.header.Header.{Header}
 use Rattle.iso_wire.specs.Framing.{frame_of, frames_of, AllFit, NoFrame, largest}
+use Rattle.iso_wire.proofs.FrameSplits.{frames_of-append, AllFit-append}
 use Rattle.iso_issuer.specs.Books.{Books}
 use Rattle.iso_host.specs.Entering.{books_after_bodies, BodiesGoOn}
 use Rattle.iso_guard.specs.Guarding.{Guard}
@@ -14,7 +15,7 @@ use Rattle.iso_guard.specs.Answering.{IsGuardedOutputFrom, IsGuardedOutput}
 use Rattle.iso_lines.specs.declared.standing.Closing.{Closing}
 use Rattle.iso_lines.specs.Guarded.{guard_at}
 use Rattle.iso_lines.specs.Hearing.{Arrival, books_after_arrivals, bodies_of, IsShare, AreAnswers, IsHeard, sender, keeping, coming, growth, Dealing, HearsBytes}
-use Rattle.iso_lines.proofs.Turns.{books_go_on, bodies_go_on, answers_go_on, frames_go_on, fit_go_on, not_over}
+use Rattle.iso_lines.proofs.Turns.{books_go_on, bodies_go_on, answers_go_on, not_over}
 
 -- ---- frames that were answered
 
@@ -115,9 +116,9 @@ made_one_more key g held kept out grown e0 e1 before after bytes more bodies bod
         rest = more;
         front = front ∙ sym (append_assoc (frames_of g.header bodies) (frame_of g.header body) more)
             ∙ ap (λ (l : List ℕ). (frames_of g.header bodies ++ l) ++ more) (sym (append-nil (frame_of g.header body)))
-            ∙ ap (λ (l : List ℕ). l ++ more) (sym (frames_go_on g.header bodies (body ∷ [])))
+            ∙ ap (λ (l : List ℕ). l ++ more) (sym (frames_of-append g.header bodies (body ∷ [])))
             ∙ ap (λ (l : List (List ℕ)). frames_of g.header l ++ more) (sym same);
-        fit = subst (AllFit g.header) (sym same) (fit_go_on g.header bodies (body ∷ []) fit (fits, tt));
+        fit = subst (AllFit g.header) (sym same) (AllFit-append g.header bodies (body ∷ []) fit (fits, tt));
         answers = answers ++ [];
         are = answers_go_on key g before (arrivals_of key g bodies) last answers [] (answers_of law key g before bodies answers stays output) share;
         waits = waits ∙ ap (λ (l : List ℕ). out ++ l) (sym (append-nil answers));

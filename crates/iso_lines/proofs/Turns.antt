@@ -1,12 +1,12 @@
 -- What is heard of peers, piece after piece and peer after peer.
-use Rattle.std.proofs.Common.{◌≡◌, ◌≢◌, ◌∙◌, ◌++◌, ◌+◌, ◌≤◌, ◌⊎◌, ◌<◌, ℕ, Bool, true, false, inl, inr, refl, sym, ap, subst, List, [], ◌∷◌, length, take, drop, append_assoc, append-nil}
+use Rattle.std.proofs.Common.{◌≡◌, ◌≢◌, ◌∙◌, ◌++◌, ◌+◌, ◌⊎◌, ◌<◌, ℕ, Bool, true, false, inl, inr, refl, sym, ap, subst, List, [], ◌∷◌, length, take, append_assoc, append-nil}
 use Rattle.std.specs.Prelude.{Option, Some, None, slice_index_or, eqb, if◌then◌else◌}
 use Rattle.std.specs.List.{AllByRecursion}
 use Rattle.std.specs.Io.KnownBytes.{Consumes, Keeps}
 use Rattle.std.proofs.lemmas.Bool.Decides.{eqb_tells}
 use Rattle.std.proofs.lemmas.List.{take_more}
-use Rattle.iso_wire.specs.declared.header.Header.{Header}
-use Rattle.iso_wire.specs.Framing.{frame_of, frames_of, AllFit, NoFrame}
+use Rattle.iso_wire.specs.Framing.{frames_of, AllFit}
+use Rattle.iso_wire.proofs.FrameSplits.{frames_of-append, AllFit-append}
 use Rattle.iso_issuer.specs.Books.{Books}
 use Rattle.iso_guard.specs.Guarding.{Guard}
 use Rattle.iso_links.specs.declared.limits.Limits.{Limits}
@@ -14,13 +14,12 @@ use Rattle.iso_lines.specs.declared.line.Line.{Line}
 use Rattle.iso_lines.specs.declared.peer.Peer.{Peer}
 use Rattle.iso_lines.specs.declared.peers.Peers.{Peers}
 use Rattle.iso_lines.specs.declared.standing.Closing.{Closing}
-use Rattle.iso_lines.specs.declared.standing.Doing.{Doing}
-use Rattle.iso_lines.specs.declared.standing.Doing.TheVariants.{Reads, Waits, Closes}
+use Rattle.iso_lines.specs.declared.standing.Doing.TheVariants.{Reads}
 use Rattle.iso_lines.specs.declared.standing.Standing.{Standing}
 use Rattle.iso_lines.specs.Standing.{closing_of, doing_of, doing_by, staying_of}
 use Rattle.iso_lines.specs.Guarded.{guard_at}
 use Rattle.iso_lines.specs.Keys.{peer_at, looked_at, OthersStay, AllStay}
-use Rattle.iso_lines.specs.Hearing.{Arrival, books_after_arrival, books_after_arrivals, bodies_of, InTurn, IsShare, AreAnswers, IsHeard, Dealing, dealing_of, Sender, sender, Keeping, keeping, Coming, coming, Growth, growth, kept_of, IsHeardAs, HearsBytes, HearsAlone, HearsOwn, ReadsAt, HearsAt, HearsFirst}
+use Rattle.iso_lines.specs.Hearing.{Arrival, books_after_arrival, books_after_arrivals, bodies_of, InTurn, IsShare, AreAnswers, IsHeard, Dealing, dealing_of, sender, keeping, coming, growth, kept_of, IsHeardAs, HearsAlone, HearsOwn, ReadsAt, HearsAt, HearsFirst}
 
 -- ---- lists that grow
 
@@ -47,14 +46,6 @@ answers_go_on key g b (x ∷ xs) ys u v first second = (
   answers_go_on key g (books_after_arrival b x) xs ys first.1 v first.3 second,
   ap (λ (l : List ℕ). l ++ v) first.4 ∙ append_assoc first.0 first.1 v,
 )
-
-pub frames_go_on : (h : Header) (xs ys : List (List ℕ)) → frames_of h (xs ++ ys) ≡ frames_of h xs ++ frames_of h ys
-frames_go_on h [] ys = refl
-frames_go_on h (x ∷ xs) ys = ap (λ (l : List ℕ). frame_of h x ++ l) (frames_go_on h xs ys) ∙ sym (append_assoc (frame_of h x) (frames_of h xs) (frames_of h ys))
-
-pub fit_go_on : (h : Header) (xs ys : List (List ℕ)) → AllFit h xs → AllFit h ys → AllFit h (xs ++ ys)
-fit_go_on h [] ys f s = s
-fit_go_on h (x ∷ xs) ys f s = (f.0, fit_go_on h xs ys f.1 s)
 
 -- ---- frames of another peer
 
@@ -143,9 +134,9 @@ heard_more key g h0 h1 h2 o0 o1 o2 e0 None e2 b x y xs ys first second = record 
   front = sym (append_assoc h0 x y) ∙ ap (λ (l : List ℕ). l ++ y) first.front ∙ append_assoc (frames_of g.header (bodies_of key xs)) first.rest y
       ∙ ap (λ (l : List ℕ). frames_of g.header (bodies_of key xs) ++ (l ++ y)) (first.stays refl).1 ∙ ap (λ (l : List ℕ). frames_of g.header (bodies_of key xs) ++ l) second.front
       ∙ sym (append_assoc (frames_of g.header (bodies_of key xs)) (frames_of g.header (bodies_of key ys)) second.rest)
-      ∙ ap (λ (l : List ℕ). l ++ second.rest) (sym (frames_go_on g.header (bodies_of key xs) (bodies_of key ys)))
+      ∙ ap (λ (l : List ℕ). l ++ second.rest) (sym (frames_of-append g.header (bodies_of key xs) (bodies_of key ys)))
       ∙ ap (λ (l : List (List ℕ)). frames_of g.header l ++ second.rest) (sym (bodies_go_on key xs ys));
-  fit = subst (AllFit g.header) (sym (bodies_go_on key xs ys)) (fit_go_on g.header (bodies_of key xs) (bodies_of key ys) first.fit second.fit);
+  fit = subst (AllFit g.header) (sym (bodies_go_on key xs ys)) (AllFit-append g.header (bodies_of key xs) (bodies_of key ys) first.fit second.fit);
   answers = first.answers ++ second.answers;
   are = answers_go_on key g b xs ys first.answers second.answers first.are second.are;
   waits = second.waits ∙ ap (λ (l : List ℕ). l ++ second.answers) first.waits ∙ append_assoc o0 first.answers second.answers;

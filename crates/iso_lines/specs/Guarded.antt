@@ -1,5 +1,5 @@
 -- A line, and whether its frames are looked at before the host is given them.
-use Rattle.std.specs.Prelude.{ℕ, ◌||◌, Bool, not, eqb, nat_lt, length}
+use Rattle.std.specs.Prelude.{◌||◌, Bool, not, eqb, nat_lt, length}
 use Rattle.iso_links.specs.declared.terms.Terms.{Terms}
 use Rattle.iso_guard.specs.Guarding.{Guard, guard_of}
 use Rattle.iso_lines.specs.declared.line.Line.{Line}

@@ -1,9 +1,9 @@
 -- Many slots that are read, or written, at once.
-use Rattle.std.proofs.Common.{◌≡◌, ◌⊎◌, ◌≤◌, ◌<◌, ℕ, zero, suc, ◌+◌, ◌*◌, ◌-◌, ◌/◌, Bool, true, false, refl, arith, ap, sym, ◌∙◌, subst, List, [], ◌∷◌, length, take, drop, get_or, inl, inr}
-use Rattle.std.specs.Prelude.{nat_lt, slice_index, ◌==◌, ◌&&◌, replicate, max, if◌then◌else◌}
+use Rattle.std.proofs.Common.{◌≡◌, ◌⊎◌, ◌≤◌, ◌<◌, ℕ, zero, suc, ◌+◌, ◌*◌, ◌-◌, ◌/◌, Bool, true, false, refl, arith, ap, sym, ◌∙◌, subst, List, [], ◌∷◌, length, take, drop, inl, inr}
+use Rattle.std.specs.Prelude.{nat_lt, slice_index, replicate, if◌then◌else◌}
 use Rattle.std.specs.List.{list_all}
 use Rattle.std.proofs.lemmas.List.{ext_get_or, take-replicate, length-replicate, get_or-replicate}
-use Rattle.sqlite_disk.specs.Disk.{Torn, Mixed, Holds, Cut}
+use Rattle.sqlite_disk.specs.Disk.{Torn, Holds, Cut}
 use Rattle.iso_log.specs.Slots.{is_nonzero, is_whole, slot, records_from, records_of}
 use Rattle.iso_log.specs.Log.{IsFirst}
 use Rattle.iso_log.proofs.Slots.{slot_same, slot_at, slot_len}

@@ -4,6 +4,7 @@ ghost use Rattle.iso_peers.specs.Host.{IsInStep, IsKept};
 
 use crate::ports::Ports;
 use iso_durable::Log;
+use iso_edge::Looks;
 use iso_lines::{
     Control, Event, Filling, Line, Lines, LoopFault, Moment, PAUSE, Pages, Peers, Stop,
 };
@@ -109,30 +110,6 @@ fn turn<R: Clock, L: Log, N: Lines + Pages>(
     }
 }
 
-/// When a stop file was last looked for, in milliseconds.
-#[derive(Clone, Copy)]
-struct Looks {
-    last: u64,
-}
-
-impl Looks {
-    /// Whether a host stops now, and why.
-    fn stop<C: Control>(&mut self, control: &mut C, has_ended: bool, now: Moment) -> Option<Stop> {
-        if has_ended {
-            return Some(Stop::Input);
-        }
-        if now.millis().saturating_sub(self.last) < PAUSE {
-            return None;
-        }
-        self.last = now.millis();
-        if control.is_called_off() {
-            Some(Stop::File)
-        } else {
-            None
-        }
-    }
-}
-
 /// A turn, behind which the lines of the log are written, also where it fails.
 fn turn_told<R: Clock, L: Log, N: Lines + Pages>(
     rt: &R,
@@ -179,14 +156,14 @@ pub fn serve_ports<R: Net + Clock, L: Log, C: Control, N: Lines + Pages>(
 {
     let mut peers = Peers::new(alloc, lines)?;
     let mut filling = Filling::NONE;
-    let mut looks = Looks { last: 0 };
+    let mut looks = Looks::every(PAUSE);
     ports.tell(moment(rt)?, log);
     let mut pause = Duration::from_millis(0);
     for _ in 0..u64::MAX {
         let has_ended = ports.wait(pause, &mut peers, control)?;
         pause = turn_told(rt, host, ports, &mut peers, &mut filling, log)?;
         let now = moment(rt)?;
-        if let Some(why) = looks.stop(control, has_ended, now) {
+        if let Some(why) = looks.stop(control, has_ended, now.millis()) {
             stop(&mut peers, why, now, log);
             return Ok(());
         }

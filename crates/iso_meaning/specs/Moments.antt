@@ -1,5 +1,5 @@
 -- Dates and times of elements 7, 12 and 13.
-use Rattle.std.specs.Prelude.{ℕ, ◌+◌, ◌-◌, ◌*◌, ◌/◌, ◌%◌, ◌==◌, ◌&&◌, ◌||◌, nat_le, Bool, List, [], ◌∷◌, ◌++◌, length, take, drop, Option, None, Some, option_map, option_and_then, if◌then◌else◌, codes}
+use Rattle.std.specs.Prelude.{ℕ, ◌+◌, ◌/◌, ◌%◌, ◌==◌, ◌&&◌, ◌||◌, nat_le, Bool, List, [], ◌∷◌, ◌++◌, length, take, drop, Option, None, Some, option_map, if◌then◌else◌, codes}
 use Rattle.iso_meaning.specs.Codes.{two_digits}
 use Rattle.iso_meaning.specs.declared.moments.Date.{Date}
 use Rattle.iso_meaning.specs.declared.moments.Time.{Time}

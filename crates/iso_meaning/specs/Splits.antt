@@ -1,5 +1,5 @@
 -- Values that are made of parts.
-use Rattle.std.specs.Prelude.{◌≡◌, ℕ, ◌+◌, ◌-◌, ◌%◌, ◌==◌, ◌&&◌, ◌||◌, ◌≤◌, nat_le, not, Bool, List, [], ◌∷◌}
+use Rattle.std.specs.Prelude.{◌≡◌, ℕ, ◌+◌, ◌%◌, ◌==◌, ◌&&◌, ◌||◌, ◌≤◌, nat_le, Bool, List, [], ◌∷◌}
 use Rattle.iso_meaning.specs.declared.splits.Part.{Part}
 
 -- the parts lie side by side, from a first place to a last one, and none is empty

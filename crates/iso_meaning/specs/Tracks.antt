@@ -1,5 +1,5 @@
 -- Track 2 data (35).
-use Rattle.std.specs.Prelude.{ℕ, suc, ◌+◌, ◌-◌, ◌==◌, ◌||◌, Bool, List, [], ◌∷◌, ◌++◌, length, take, drop, replicate, Option, None, Some, option_map, if◌then◌else◌}
+use Rattle.std.specs.Prelude.{ℕ, ◌+◌, ◌-◌, ◌==◌, ◌||◌, Bool, List, [], ◌∷◌, ◌++◌, length, take, drop, replicate, Option, None, Some, option_map, if◌then◌else◌}
 use Rattle.iso_wire.specs.Masking.{shown_front, shown_end}
 use Rattle.iso_meaning.specs.declared.splits.Part.{Part}
 use Rattle.iso_meaning.specs.declared.track.Track.{Track}

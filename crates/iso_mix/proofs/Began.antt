@@ -1,23 +1,21 @@
 -- The orders and who waits, where a hold, an inquiry or what follows a hold begins.
-use Rattle.std.proofs.Common.{◌≡◌, ◌≢◌, ℕ, Bool, true, false, refl, arith, ap, sym, ◌∙◌, subst, List, [], ◌∷◌, ◌++◌, length, ◌<◌, ◌≤◌, ◌+◌, ◌-◌, ◌*◌, cond}
-use Rattle.std.specs.Prelude.{◌==◌, ◌&&◌, nat_lt, IfSome, Option, Some, None, slice_get}
-use Rattle.std.proofs.lemmas.Grind.{common_steps}
+use Rattle.std.proofs.Common.{◌≡◌, ℕ, Bool, true, false, refl, arith, ap, sym, ◌∙◌, subst, List, [], ◌∷◌, ◌++◌, length, ◌<◌, ◌≤◌, ◌+◌, ◌-◌, ◌*◌, cond}
+use Rattle.std.specs.Prelude.{◌==◌, ◌&&◌, nat_lt, IfSome, Option, Some, None}
 use Rattle.std.proofs.lemmas.Bool.{and_parts}
 use Rattle.iso_order.specs.declared.act.Act.{Act}
 use Rattle.iso_order.specs.declared.key.TxKey.{TxKey}
 use Rattle.iso_order.specs.Order.{Instruction, is_valid}
-use Rattle.iso_mix.specs.declared.asked.Asked.{Asked}
+use Rattle.iso_order.proofs.Lists.{some_is}
 use Rattle.iso_mix.specs.declared.asked.Side.{Side}
 use Rattle.iso_mix.specs.declared.draft.Draft.{Draft}
 use Rattle.iso_mix.specs.declared.mix.Kind.{Kind}
-use Rattle.iso_mix.specs.declared.waits.Due.{Due}
-use Rattle.iso_mix.specs.Asked.{asked_at, place_of, is_free, is_hold, is_granted, is_nothing, unanswered, sides_followed}
-use Rattle.iso_mix.specs.Begun.{opened, Follows, Opens, Ends}
+use Rattle.iso_waits.specs.declared.due.Due.{Due}
+use Rattle.iso_mix.specs.Asked.{asked_at, is_free, is_hold, is_granted, is_nothing, unanswered, sides_followed}
+use Rattle.iso_mix.specs.Begun.{opened, Follows}
 use Rattle.iso_mix.specs.Book.{IsBook}
 use Rattle.iso_mix.specs.Orders.{next_stan, opening_act, opening_key, opening_by, opening_order, valid_order, follower_act, follower_base, follower_stan, follower_key, IsFollower}
 use Rattle.iso_mix.proofs.Kept.{OneIs, kept-begun}
 use Rattle.iso_mix.proofs.Placed.{at-pushed, at-followed, none-behind, none-followed, is-lt}
-use Rattle.iso_mix.proofs.Plain.{some_is}
 
 -- ---- the trace numbers
 

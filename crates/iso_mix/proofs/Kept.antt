@@ -1,14 +1,14 @@
 -- The orders and who waits, where one begins, is asked again or is answered.
-use Rattle.std.proofs.Common.{◌≡◌, ◌≢◌, ℕ, Bool, true, false, refl, arith, ap, sym, ◌∙◌, subst, List, [], ◌∷◌, ◌++◌, length, ◌<◌, ◌≤◌, ◌+◌, ◌-◌, ◌*◌, cond}
-use Rattle.std.specs.Prelude.{◌==◌, ◌&&◌, not, nat_le, nat_lt, Option, Some, None, slice_get}
+use Rattle.std.proofs.Common.{◌≡◌, ℕ, Bool, true, false, refl, arith, ap, sym, ◌∙◌, subst, List, [], ◌∷◌, ◌++◌, ◌≤◌, ◌+◌, ◌-◌, cond}
+use Rattle.std.specs.Prelude.{◌==◌, nat_lt, Option, Some, None, slice_get}
 use Rattle.std.proofs.lemmas.Grind.{common_steps}
 use Rattle.iso_order.specs.declared.key.TxKey.{TxKey}
 use Rattle.iso_order.specs.Key.{same_key}
-use Rattle.iso_order.specs.Order.{Instruction}
-use Rattle.iso_mix.specs.declared.waits.Due.{Due}
-use Rattle.iso_mix.specs.Waits.{put_off, without, AreInTime}
-use Rattle.iso_mix.proofs.Plain.{same_number, number_self, unlike, some_is, none-some, clash}
-use Rattle.iso_mix.proofs.InTime.{times, times-push, times-put-off, times-without, in-time-later, in-time-push, in-time-without, in-time-put-off, none-waits, first-waits}
+use Rattle.iso_order.proofs.Lists.{some_is}
+use Rattle.iso_waits.specs.declared.due.Due.{Due}
+use Rattle.iso_waits.specs.Waits.{put_off, without}
+use Rattle.iso_order.proofs.Plain.{same_number, number_self, unlike}
+use Rattle.iso_waits.proofs.Waits.{times, times-push, times-put-off, times-without, in-time-later, in-time-push, in-time-without, in-time-put-off, none-waits, first-waits}
 use Rattle.iso_mix.proofs.Placed.{at-answered}
 use Rattle.iso_mix.specs.declared.asked.Asked.{Asked}
 use Rattle.iso_mix.specs.declared.asked.Side.{Side}

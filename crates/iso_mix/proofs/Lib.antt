@@ -1,6 +1,4 @@
 pub mod Began
 pub mod Kept
 pub mod Placed
-pub mod Plain
 pub mod Shares
-pub mod InTime

@@ -1,20 +1,17 @@
 -- Where orders lie.
-use Rattle.std.proofs.Common.{◌≡◌, ◌≢◌, ℕ, zero, suc, Bool, true, false, refl, arith, ap, sym, ◌∙◌, List, [], ◌∷◌, ◌++◌, length, ◌<◌, ◌≤◌, ◌+◌, ◌-◌, ◌*◌, ◌/◌, ◌%◌, cond, slice_set, subst}
-use Rattle.std.specs.Prelude.{◌==◌, ◌&&◌, nat_le, nat_lt, Option, Some, None, slice_get, option_map}
+use Rattle.std.proofs.Common.{◌≡◌, ◌≢◌, ℕ, zero, suc, Bool, true, false, refl, arith, ap, sym, ◌∙◌, List, [], ◌∷◌, ◌++◌, length, ◌<◌, ◌≤◌, ◌+◌, ◌-◌, ◌*◌, ◌%◌, cond, slice_set}
+use Rattle.std.specs.Prelude.{◌==◌, nat_le, nat_lt, Option, Some, None, slice_get, option_map}
 use Rattle.std.proofs.lemmas.Grind.{common_steps}
 use Rattle.std.proofs.lemmas.Option.{slice_get_past, slice_get_within}
 use Rattle.std.proofs.lemmas.List.{length-append}
-use Rattle.iso_mix.proofs.Plain.{same_number, number_self, other_number, unlike, some_is, none-some}
+use Rattle.iso_order.proofs.Plain.{same_number, number_self, other_number, unlike, none-some}
 use Rattle.iso_order.specs.Order.{Instruction}
+use Rattle.iso_order.proofs.Lists.{some_is, get-last}
 use Rattle.iso_mix.specs.declared.asked.Asked.{Asked}
 use Rattle.iso_mix.specs.declared.asked.Side.{Side}
 use Rattle.iso_mix.specs.Asked.{place_of, follows, part_of, part_in, asked_at, changed_in, changed_at, with_code, answered, sides_answered, unanswered, followed, sides_followed, is_nothing}
 
 -- ---- lists
-
-get-last : {X : Type 0} (xs : List X) (x : X) → slice_get (xs ++ x ∷ []) (length xs) ≡ Some x
-get-last [] x = refl
-get-last (y ∷ ys) x = get-last ys x
 
 get-front : {X : Type 0} (xs : List X) (x : X) (i : ℕ) → i < length xs → slice_get (xs ++ x ∷ []) i ≡ slice_get xs i
 get-front [] x i h = absurd (omega (arith, h))

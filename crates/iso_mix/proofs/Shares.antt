@@ -1,9 +1,7 @@
 -- Of a hundred draws as many are of each kind as the mix says.
-use Rattle.std.proofs.Common.{◌≡◌, ℕ, zero, suc, Bool, true, false, refl, arith, ap, sym, ◌∙◌, ◌<◌, ◌≤◌, ◌+◌, ◌-◌, cond}
+use Rattle.std.proofs.Common.{◌≡◌, ℕ, zero, suc, Bool, true, false, refl, arith, ap, ◌∙◌, ◌≤◌, ◌+◌, ◌-◌, cond}
 use Rattle.std.specs.Prelude.{◌&&◌, nat_le, nat_lt, min}
 use Rattle.std.proofs.lemmas.Grind.{common_steps}
-use Rattle.iso_mix.specs.declared.mix.Kind.{Kind}
-use Rattle.iso_mix.specs.declared.mix.Kind.TheVariants.{Purchase, Hold, Complete, Inquiry, Undo}
 use Rattle.iso_mix.specs.declared.mix.Mix.{Mix}
 use Rattle.iso_mix.specs.Counts.{is_hold_kind, is_completion_kind, is_inquiry_kind, is_undo_kind, is_purchase_kind}
 use Rattle.iso_mix.specs.Mix.{is_fair, kind_of}

@@ -1,5 +1,5 @@
 -- What begins.
-use Rattle.std.specs.Prelude.{◌≡◌, ◌++◌, ◌∷◌, [], ◌⊎◌, ℕ, Bool, true, List, Option, Some, None, length, slice_get}
+use Rattle.std.specs.Prelude.{◌≡◌, ◌++◌, ◌∷◌, [], ◌⊎◌, ℕ, true, List, Option, Some, None, length, slice_get}
 use Rattle.iso_order.specs.Order.{Instruction}
 use Rattle.iso_mix.specs.declared.asked.Side.{Side}
 use Rattle.iso_mix.specs.declared.draft.Draft.{Draft}

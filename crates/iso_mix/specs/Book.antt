@@ -1,9 +1,9 @@
 -- The orders of a mix, and which of them wait for an answer.
-use Rattle.std.specs.Prelude.{◌≡◌, ◌≢◌, ◌==◌, ◌≤◌, ◌++◌, ℕ, Bool, true, false, List, [], ◌∷◌, Option, Some, None, option_map, count_by, drop, take, nat_lt, if◌then◌else◌}
+use Rattle.std.specs.Prelude.{◌≡◌, ◌≢◌, ◌==◌, ℕ, false, List, [], ◌∷◌, Option, Some, None, count_by, nat_lt, if◌then◌else◌}
 use Rattle.iso_order.specs.Order.{Instruction}
 use Rattle.iso_order.specs.declared.key.TxKey.{TxKey}
-use Rattle.iso_mix.specs.declared.waits.Due.{Due}
-use Rattle.iso_mix.specs.Waits.{AreInTime, moment_after, put_off, without}
+use Rattle.iso_waits.specs.declared.due.Due.{Due}
+use Rattle.iso_waits.specs.Waits.{AreInTime, moment_after, put_off, without}
 use Rattle.iso_mix.specs.declared.asked.Asked.{Asked}
 use Rattle.iso_mix.specs.declared.asked.Side.{Side}
 use Rattle.iso_mix.specs.declared.hearing.Hearing.{Hearing}

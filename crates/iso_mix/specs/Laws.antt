@@ -1,5 +1,5 @@
 -- What holds of each mix, and of what follows a hold.
-use Rattle.std.specs.Prelude.{◌≡◌, ◌≤◌, ◌<◌, ◌+◌, ◌-◌, ℕ, Bool, true, zero, suc, if◌then◌else◌}
+use Rattle.std.specs.Prelude.{◌≡◌, ◌≤◌, ◌<◌, ◌+◌, ℕ, Bool, true, zero, suc, if◌then◌else◌}
 use Rattle.iso_mix.specs.declared.mix.Kind.{Kind}
 use Rattle.iso_mix.specs.declared.mix.Mix.{Mix}
 use Rattle.iso_mix.specs.Counts.{is_hold_kind, is_completion_kind, is_inquiry_kind, is_undo_kind, is_purchase_kind}

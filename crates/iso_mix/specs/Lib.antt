@@ -7,4 +7,3 @@ pub mod Laws
 pub mod Mix
 pub mod Orders
 pub mod Taken
-pub mod Waits

@@ -1,5 +1,5 @@
 -- How many transactions are of which kind.
-use Rattle.std.specs.Prelude.{◌≡◌, ◌<◌, ◌+◌, ◌==◌, ◌&&◌, ℕ, Bool, true, false, zero, suc, nat_lt, nat_le, if◌then◌else◌}
+use Rattle.std.specs.Prelude.{◌+◌, ◌==◌, ◌&&◌, ℕ, Bool, nat_lt, nat_le, if◌then◌else◌}
 use Rattle.iso_mix.specs.declared.mix.Kind.{Kind}
 use Rattle.iso_mix.specs.declared.mix.Kind.TheVariants.{Purchase, Hold, Complete, Inquiry, Undo}
 use Rattle.iso_mix.specs.declared.mix.Mix.{Mix}

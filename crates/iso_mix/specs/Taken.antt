@@ -1,6 +1,6 @@
 -- What is taken from an account: for each hold of it that was granted, the amount of its follower that was granted, which
 -- is what was completed or what a partial reversal left, or else the amount that was held.
-use Rattle.std.specs.Prelude.{◌==◌, ◌&&◌, ℕ, Bool, List, Option, Some, None, sum_by, if◌then◌else◌}
+use Rattle.std.specs.Prelude.{◌==◌, ◌&&◌, ℕ, List, Option, Some, None, sum_by, if◌then◌else◌}
 use Rattle.iso_order.specs.Order.{amount_of}
 use Rattle.iso_mix.specs.declared.asked.Asked.{Asked}
 use Rattle.iso_mix.specs.declared.asked.Side.{Side}

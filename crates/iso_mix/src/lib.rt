@@ -16,7 +16,6 @@ mod mix;
 mod orders;
 mod sides;
 mod taken;
-mod waits;
 
 pub use counts::Counts;
 pub use draft::Draft;

@@ -2,7 +2,7 @@
 ghost use Rattle.std.specs.Prelude.{◌≡◌, ◌≤◌, ◌↔◌, ◌++◌, ◌∷◌, [], ℕ, List, IsTrue};
 ghost use Rattle.std.specs.Prelude.{IfOk, OnErr, OnOk, IfSome, length, max, option_map, slice_get};
 ghost use Rattle.std.specs.List.{AllByRecursion};
-ghost use Rattle.iso_mix.specs.Waits.{moment_after};
+ghost use Rattle.iso_waits.specs.Waits.{moment_after};
 ghost use Rattle.iso_mix.specs.declared.asked.Asked.{Asked};
 ghost use Rattle.iso_mix.specs.Asked.{asked_at};
 ghost use Rattle.iso_mix.specs.Begun.{Begins, EndsOrNot, OpensOrNot};
@@ -21,8 +21,8 @@ use crate::hearing::{Hearing, hearing_of};
 use crate::mix::Kind;
 use crate::orders::{follower_at, opening_order};
 use crate::taken::taken_from;
-use crate::waits::{Due, first_of, is_empty, leave_out, moment_after, put_off, wait};
 use iso_order::{Order, Told};
+use iso_waits::{Due, first_of, is_empty, leave_out, moment_after, put_off, wait};
 use std::alloc::{AllocError, Global};
 use std::collections::VecDeque;
 

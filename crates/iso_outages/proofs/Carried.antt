@@ -4,6 +4,7 @@ use Rattle.std.specs.Prelude.{Option, Some, None, is_some, nat_le, slice_get, if
 use Rattle.std.specs.List.{AllByRecursion}
 use Rattle.iso_order.specs.Order.{Instruction, is_valid, same_order}
 use Rattle.iso_order.specs.Outcome.{Outcome, code_alone}
+use Rattle.iso_order.proofs.Lists.{all-weaker, all-join, at-more}
 use Rattle.iso_issuer.specs.declared.account.Account.{Account}
 use Rattle.iso_issuer.specs.declared.journal.Entry.{Entry}
 use Rattle.iso_issuer.specs.Journal.{is_entered, entry_at, HasDistinctKeys}
@@ -13,7 +14,6 @@ use Rattle.iso_issuer.specs.Laws.{AnswersAreKept, EnteredHasEntry, JournalsGrow,
 use Rattle.iso_durable.specs.Durable.{Durable, entered, books_of, comes, outcome}
 use Rattle.iso_durable.specs.World.{IsStart}
 use Rattle.iso_acquirer.specs.declared.event.Given.{Given}
-use Rattle.iso_outages.proofs.Lists.{all-join, all-weaker, at-more}
 
 -- what the laws of the issuer say
 pub record IssuerLaws : Type 0 where

@@ -8,6 +8,7 @@ use Rattle.iso_order.specs.declared.key.TxKey.{TxKey}
 use Rattle.iso_order.specs.Key.{same_key}
 use Rattle.iso_order.specs.Pan.{AccountNumber}
 use Rattle.iso_order.specs.Order.{Instruction}
+use Rattle.iso_order.proofs.Lists.{all-weaker, all-at, all-join}
 use Rattle.iso_issuer.specs.declared.account.Account.{Account}
 use Rattle.iso_durable.specs.Durable.{entered, comes}
 use Rattle.iso_acquirer.specs.declared.event.Event.{Event as Passing}
@@ -25,7 +26,7 @@ use Rattle.iso_acquirer.specs.Runs.{IsRun}
 use Rattle.iso_acquirer.specs.Runs.{CanHappen as CanPass}
 use Rattle.iso_outages.specs.World.{World, Event, Passes, Syncs, Crashes, sends, begins, asks, receives, hears, receives_other, passes, happens, run, unused}
 use Rattle.iso_outages.specs.Laws.{CanHappen, ends_with, IsAmong}
-use Rattle.iso_outages.proofs.Lists.{all-join, all-weaker, all-take, all-at, start-kept}
+use Rattle.iso_outages.proofs.Lists.{all-take, start-kept}
 use Rattle.iso_outages.proofs.Carried.{IssuerLaws, CanBring, IsCarried, carried-more, carried-comes, carried-answered}
 use Rattle.iso_outages.proofs.Delivered.{run-none, run-first, run-join, deliver-all, give-all}
 

@@ -1,4 +1,4 @@
-mod InStep
+pub mod InStep
 mod Leaving
 mod Outlive
-mod Pieces
+pub mod Pieces

@@ -15,7 +15,7 @@ use Rattle.iso_issuer.specs.Books.{Books, is_full, journal}
 use Rattle.iso_issuer.specs.Journal.{is_entered}
 use Rattle.iso_issuer.specs.Decision.{answer_for}
 use Rattle.iso_durable.specs.Durable.{Durable, books_of, comes, come_all, syncs, crashes}
-use Rattle.iso_durable.specs.World.{World, Told, Event, happens, run, begins, waiting_after, IsAnswered, IsStart, ToldOutlive}
+use Rattle.iso_durable.specs.World.{World, Told, Event, happens, run, begins, IsAnswered, ToldOutlive}
 use Rattle.iso_durable.specs.World as runs
 use Rattle.iso_host.specs.Asking.{asked_of, message_in, orders_in}
 use Rattle.iso_host.specs.Output.{IsAnswer, IsAnswerTo, IsFramed, outcome_for, outcome_of, response_with}

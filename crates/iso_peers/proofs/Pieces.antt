@@ -5,66 +5,31 @@ use Rattle.std.proofs.lemmas.List.{length-drop, take_all}
 use Rattle.std.proofs.Math.Seq.{drop-length, take-add}
 use Rattle.iso_table.specs.Layout.{Layout}
 use Rattle.iso_wire.specs.declared.header.Header.{Header}
-use Rattle.iso_wire.specs.Framing.{frame_of, frames_of, AllFit, largest, NoFrame, SplitsSomehow}
+use Rattle.iso_wire.specs.Framing.{frame_of, frames_of, AllFit, NoFrame, SplitsSomehow}
+use Rattle.iso_wire.proofs.FrameSplits.{frames_more, fit_more}
 use Rattle.iso_issuer.specs.Books.{Books}
 use Rattle.iso_issuer.specs.Laws.{books_after}
 use Rattle.iso_host.specs.Links.{agreed}
 use Rattle.iso_host.specs.Asking.{asked_of, orders_in, orders_of}
 use Rattle.iso_host.specs.Entering.{books_after_bodies, BodiesGoOn, StaysWithout}
 use Rattle.iso_host.specs.Handling.{books_after_body}
-use Rattle.iso_host.specs.Output.{IsAnswer, IsOutputFrom, IsOutput}
+use Rattle.iso_host.specs.Output.{IsAnswer, IsOutput}
 use Rattle.iso_host.specs.Peers.{TakesPiece, Refuses, one_peer}
 use Rattle.iso_host.specs.declared.peer.PeerFault.{PeerFault}
 use Rattle.iso_host.specs.declared.handled.Handled.{Handled}
 use Rattle.iso_peers.specs.Connection.{ConnectionState}
 use Rattle.iso_host.specs.declared.peer.Taken.{Taken}
+use Rattle.iso_host.proofs.OutputLemmas.{output_none, output_more}
 use Rattle.iso_peers.specs.Turn.{TakesAll, TakesOf, at_books}
 
 -- ---- one body more
-
-frames_more : (h : Header) (bodies : List (List ℕ)) (body rest : List ℕ) → frames_of h (bodies ++ body ∷ []) ++ rest ≡ frames_of h bodies ++ (frame_of h body ++ rest)
-frames_more h [] body rest = ap (λ (l : List ℕ). l ++ rest) (append-nil (frame_of h body))
-frames_more h (x ∷ xs) body rest =
-    append_assoc (frame_of h x) (frames_of h (xs ++ body ∷ [])) rest ∙ ap (λ (l : List ℕ). frame_of h x ++ l) (frames_more h xs body rest)
-    ∙ sym (append_assoc (frame_of h x) (frames_of h xs) (frame_of h body ++ rest))
-
-fit_more : (h : Header) (bodies : List (List ℕ)) (body : List ℕ) → AllFit h bodies → length body ≤ largest h → AllFit h (bodies ++ body ∷ [])
-fit_more h [] body f k = (k, tt)
-fit_more h (x ∷ xs) body f k = (f.0, fit_more h xs body f.1 k)
-
-output_from_more : (t : Layout) (h : Header) (books : Books) (earlier bodies : List (List ℕ)) (body out first : List ℕ)
-    → IsOutputFrom (agreed t h) books earlier bodies out → IsAnswer t h (books_after_bodies t books (earlier ++ bodies)) body first → IsOutputFrom (agreed t h) books earlier (bodies ++ body ∷ []) (out ++ first)
-output_from_more t h books earlier [] body out first is answer = (
-  first,
-  [],
-  subst (λ (l : List (List ℕ)). IsAnswer t h (books_after_bodies t books l) body first) (append-nil earlier) answer,
-  refl,
-  ap (λ (l : List ℕ). l ++ first) is ∙ sym (append-nil first),
-)
-output_from_more t h books earlier (x ∷ xs) body out first is answer =
-    let later = subst (λ (l : List (List ℕ)). IsAnswer t h (books_after_bodies t books l) body first) (sym (append_assoc earlier (x ∷ []) xs)) answer in (
-      is.0,
-      is.1 ++ first,
-      is.2,
-      output_from_more t h books (earlier ++ x ∷ []) xs body is.1 first is.3 later,
-      ap (λ (l : List ℕ). l ++ first) is.4 ∙ append_assoc is.0 is.1 first,
-    )
-
-output_none : (t : Layout) (h : Header) (books : Books) → IsOutput t h books [] []
-unfolding IsOutput
-output_none t h books = refl
-
-output_more : (t : Layout) (h : Header) (books : Books) (bodies : List (List ℕ)) (body out first : List ℕ)
-    → IsOutput t h books bodies out → IsAnswer t h (books_after_bodies t books bodies) body first → IsOutput t h books (bodies ++ body ∷ []) (out ++ first)
-unfolding IsOutput
-output_more t h books bodies body out first is answer = output_from_more t h books [] bodies body out first is answer
 
 -- bodies enter the books by the orders that they ask
 pub by_orders : (t : Layout) (books : Books) (bodies : List (List ℕ)) → books_after_bodies t books bodies ≡ books_after books (orders_of t bodies)
 unfolding books_after_bodies
 by_orders t books bodies = refl
 
-body_alone : (t : Layout) (books : Books) (body : List ℕ) → books_after_body t books body ≡ books_after_bodies t books (body ∷ [])
+pub body_alone : (t : Layout) (books : Books) (body : List ℕ) → books_after_body t books body ≡ books_after_bodies t books (body ∷ [])
 body_alone t books body = ap (books_after books) (sym (append-nil (orders_in (asked_of t body)))) ∙ sym (by_orders t books (body ∷ []))
 
 -- ---- the bytes so far

@@ -40,10 +40,6 @@ all-insert P k held (e ∷ es) p all = go (by_moment k e.0) refl (all-insert P k
     go Equal q rest = rw q all
     go Greater q rest = rw q (all.0, rest)
 
-pub all-weaker : {X : Type 0} (P Q : X → Type 0) (xs : List X) → ((x : X) → P x → Q x) → AllByRecursion P xs → AllByRecursion Q xs
-all-weaker P Q [] f all = tt
-all-weaker P Q (x ∷ xs) f all = (f x all.0, all-weaker P Q xs f all.1)
-
 -- a key that isn't greater has no later moment
 pub earlier-moment : (x y : ℕ × ℕ) → is_gt (by_moment x y) ≡ false → x.0 ≤ y.0
 earlier-moment x y h = go (nat_lt x.0 y.0) refl (x.0 == y.0) refl

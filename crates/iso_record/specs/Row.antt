@@ -12,14 +12,13 @@
 -- 107   1  the sign of the balance that is shown, + or -, a blank where none is
 -- 108  19  that balance without its sign, or blanks
 -- 127   1  the end of the line
-use Rattle.std.specs.Prelude.{◌≡◌, ℕ, ◌+◌, ◌-◌, ◌^◌, ◌==◌, ◌&&◌, nat_lt, nat_le, Bool, true, false, List, [], ◌∷◌, ◌++◌, take, drop, length, replicate, slice_index, bytes_eq, Option, Some, None, option_map, if◌then◌else◌, ℤ, pos, negsuc, IsTrue, unsigned_abs, int_lt}
-use Rattle.iso_wire.specs.Decimal.{decimal, number_in}
+use Rattle.std.specs.Prelude.{◌≡◌, ℕ, ◌+◌, ◌-◌, ◌^◌, ◌==◌, ◌&&◌, nat_lt, nat_le, Bool, true, List, [], ◌∷◌, ◌++◌, take, drop, replicate, slice_index, bytes_eq, Option, Some, None, option_map, if◌then◌else◌, ℤ, pos, negsuc, unsigned_abs}
+use Rattle.iso_wire.specs.Decimal.{decimal}
 use Rattle.iso_log.specs.Slots.{is_whole}
 use Rattle.iso_order.specs.declared.key.TxKey.{TxKey}
 use Rattle.iso_order.specs.declared.act.Act.{Act}
 use Rattle.iso_order.specs.declared.act.Act.TheVariants.{Debit, Credit, Inquiry, Undo, Complete}
 use Rattle.iso_order.specs.declared.act.Money.{Money}
-use Rattle.iso_order.specs.Key.{is_valid_key}
 use Rattle.iso_order.specs.Order.{Instruction, is_valid, money_of, amount_of, currency_of}
 use Rattle.iso_order.specs.Outcome.{Outcome}
 use Rattle.iso_order.specs.Pan.{AccountNumber, pan_of}

@@ -3,9 +3,10 @@ use Rattle.std.proofs.Common.{◌≡◌, ◌∙◌, ◌≤◌, ◌<◌, ◌-◌,
 use Rattle.std.specs.Prelude.{Option, Some, None, ◌&&◌, nat_lt, if◌then◌else◌}
 use Rattle.std.specs.List.{AllByRecursion, list_any, list_all}
 use Rattle.std.proofs.lemmas.Grind.{common_steps}
-use Rattle.std.proofs.lemmas.Bool.{cases_lt}
+use Rattle.std.proofs.lemmas.Bool.{cases_lt, and_parts}
 use Rattle.iso_order.specs.declared.key.TxKey.{TxKey}
 use Rattle.iso_order.specs.Key.{same_key}
+use Rattle.iso_order.proofs.Same.{same_key_is}
 use Rattle.iso_front.specs.declared.gathering.Heard.{Heard}
 use Rattle.iso_front.specs.declared.gathering.Heard.TheVariants.{Unasked, Nothing}
 use Rattle.iso_front.specs.declared.gathering.Joint.{Joint}
@@ -18,7 +19,7 @@ use Rattle.iso_relay.specs.declared.decision.Decision.TheVariants.{PassOn}
 use Rattle.iso_relay.specs.Entries.{most_pending, key_of, entry, first_heard, heard_under, AreApart, put, without, asked, asked_under, decided, left, left_by}
 use Rattle.iso_relay.specs.History.{Event, entries_after, last_said, IsSaidByAll}
 use Rattle.iso_relay.specs.History.Event.{Asks, Says}
-use Rattle.iso_relay.proofs.Keys.{same_key_is, other_way}
+use Rattle.iso_relay.proofs.Keys.{other_way}
 use Rattle.iso_relay.proofs.Putting.{all-put, all-without, all-drop, apart-put, apart-without, apart-drop}
 use Rattle.iso_relay.proofs.Tables.{passed}
 use Rattle.iso_relay.proofs.Saying.{IsTracked, heard_since, was-since, just-asked, still-tracked, other-said, said-tracked, said-heard, said-long, number-is}
@@ -169,16 +170,12 @@ joint-same true b told = absurd (cc)
 joint-same false true told = refl
 joint-same false false told = absurd (cc)
 
-front-of : (p q : Bool) → p && q ≡ true → (p ≡ true) × (q ≡ true)
-front-of true q h = (refl, h)
-front-of false q h = absurd (cc)
-
 all-at : (test : Heard → Bool) (xs : List Heard) (n : ℕ) (d : Heard) → list_all test xs ≡ true → n < length xs
     → test (get_or xs n d) ≡ true
 all-at test [] n d all below = absurd (omega (arith, below))
-all-at test (x ∷ xs) zero d all below = (front-of (test x) (list_all test xs) all).0
+all-at test (x ∷ xs) zero d all below = (and_parts (test x) (list_all test xs) all).0
 all-at test (x ∷ xs) (suc n) d all below =
-    all-at test xs n d (front-of (test x) (list_all test xs) all).1 (omega (arith, below))
+    all-at test xs n d (and_parts (test x) (list_all test xs) all).1 (omega (arith, below))
 
 code-said : (o : Option ℕ) (code : ℕ) → agrees code (heard_since Nothing o) ≡ true → o ≡ Some code
 code-said None code told = absurd (cc)
@@ -215,7 +212,7 @@ was-asked count shard key events h t asked =
     let since : was_asked (at_first t.route count shard) ≡ true =
     sym (was-since (at_first t.route count shard) (last_said shard key t.later))
     ∙ ap was_asked (sym (t.heard shard (rw (← t.long) below))) ∙ asked in
-    let both = front-of (nat_lt shard count) (goes_to t.route shard) (first-asked (nat_lt shard count && goes_to t.route shard) since) in
+    let both = and_parts (nat_lt shard count) (goes_to t.route shard) (first-asked (nat_lt shard count && goes_to t.route shard) since) in
     (true-lt shard count both.0, both.1)
 
 -- by what a shard is heard to say that was asked at first

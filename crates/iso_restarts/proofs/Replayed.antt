@@ -53,7 +53,7 @@ party-next id notes i n lt is =
 
 -- ---- notes that an acquirer can have written
 
-can-split : (id : ℕ) (slots : List Slot) (xs ys : List Note) (n : Note) → CanBeWritten (record { id = id; slots = slots }) (xs ++ n ∷ ys) → CanNote (record { id = id; slots = slots_after slots xs }) n
+pub can-split : (id : ℕ) (slots : List Slot) (xs ys : List Note) (n : Note) → CanBeWritten (record { id = id; slots = slots }) (xs ++ n ∷ ys) → CanNote (record { id = id; slots = slots_after slots xs }) n
 can-split id slots [] ys n can = can.0
 can-split id slots (x ∷ xs) ys n can = can-split id (party_noted (record { id = id; slots = slots }) x).slots xs ys n can.1
 

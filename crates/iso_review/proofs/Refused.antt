@@ -1,6 +1,5 @@
 -- What the reader refuses stands for no table.
-use Rattle.std.proofs.Common.{◌≡◌, ◌≢◌, List, ℕ, Ok, Err, refl, sym, ap, ◌∙◌}
-use Rattle.std.specs.Prelude.{IsErrOf}
+use Rattle.std.proofs.Common.{◌≡◌, ◌≢◌, List, ℕ, Ok, refl, sym, ap, ◌∙◌}
 use Rattle.iso_table.specs.declared.fault.TableFault.{TableFault}
 use Rattle.iso_table.specs.declared.fault.TableFault.TheVariants.{NotJson, Memory}
 use Rattle.iso_table.specs.Document.{IsDocumentFault, IsNotJson, table_in}

@@ -1,13 +1,10 @@
 -- Changes to the rows of a draft.
 use Rattle.std.specs.Option.{option_or}
-use Rattle.std.specs.Prelude.{ℕ, ◌==◌, Bool, not, filter, if◌then◌else◌, List, [], ◌∷◌, Option, Some, None, option_map, unwrap_or, Result, Ok, Err}
-use Rattle.iso_parts.specs.declared.class.CharClass.{CharClass}
-use Rattle.iso_parts.specs.declared.encoding.Coding.{Coding}
+use Rattle.std.specs.Prelude.{ℕ, ◌==◌, not, filter, if◌then◌else◌, List, [], ◌∷◌, Option, Some, None, option_map, unwrap_or, Result, Ok, Err}
 use Rattle.iso_parts.specs.declared.encoding.Coding.TheVariants as codings
 use Rattle.iso_parts.specs.declared.digits.Digits.{Digits}
 use Rattle.iso_parts.specs.declared.prefix.Length.{Length}
 use Rattle.iso_parts.specs.declared.prefix.Length.TheVariants as lengths
-use Rattle.iso_parts.specs.declared.padding.Pad.{Pad}
 use Rattle.iso_parts.specs.declared.padding.Pad.TheVariants as pads
 use Rattle.iso_parts.specs.declared.spec.FieldSpec.{FieldSpec}
 use Rattle.iso_table.specs.declared.draft.Row.{Row}

@@ -1,6 +1,6 @@
 -- A change to a row as a text: `48 class=ANS length=LLLL max=9999`.
 use Rattle.std.specs.List.{slice_split, before_first, after_first, list_any}
-use Rattle.std.specs.Prelude.{ℕ, ◌+◌, ◌-◌, ◌*◌, ◌==◌, Bool, if◌then◌else◌, List, [], ◌∷◌, Option, None, Some, option_and_then, Result, Ok, Err, codes, find}
+use Rattle.std.specs.Prelude.{ℕ, ◌+◌, ◌-◌, ◌*◌, ◌==◌, if◌then◌else◌, List, [], ◌∷◌, Option, None, Some, option_and_then, Result, Ok, Err, codes, find}
 use Rattle.std.specs.Str.{bytes_eq}
 use Rattle.iso_parts.specs.Class.{is_digit}
 use Rattle.iso_table.specs.Members.{up_to}

@@ -5,7 +5,6 @@ use Rattle.iso_parts.specs.declared.bitmap.BitmapCoding.{BitmapCoding}
 use Rattle.iso_parts.specs.declared.spec.FieldSpec.{FieldSpec}
 use Rattle.iso_parts.specs.declared.digits.Digits.{Digits}
 use Rattle.iso_parts.specs.declared.digits.Digits.TheVariants.{Ascii, Bcd}
-use Rattle.iso_table.specs.Layout.{Layout}
 use Rattle.iso_wire.specs.Reading.{message_at}
 use Rattle.iso_host.specs.Asking.{message_in}
 use Rattle.iso_script.specs.Misbehaving.{garbage, ReadByNone}

@@ -1,7 +1,8 @@
 //! The port that a host with rules listens on.
 
 use crate::peers::Peers;
-use iso_lines::{Control, LoopFault, Unbound};
+use iso_edge::listen;
+use iso_lines::{Control, LoopFault};
 use mio::net::{TcpListener, TcpStream};
 use mio::unix::SourceFd;
 use mio::{Events, Interest, Poll, Token};
@@ -32,34 +33,6 @@ pub struct Port {
     may_have_come: bool,
 }
 
-/// Why the system refused an address.
-fn unbound(kind: ErrorKind) -> Unbound {
-    match kind {
-        ErrorKind::AddrInUse => Unbound::Taken,
-        ErrorKind::AddrNotAvailable => Unbound::Elsewhere,
-        ErrorKind::PermissionDenied => Unbound::Denied,
-        _ => Unbound::Other,
-    }
-}
-
-/// Listens on an address, and has the system watch it.
-fn listen<R: Net>(rt: &R, poll: &Poll, address: SocketAddr) -> Result<TcpListener, LoopFault> {
-    let mut listener = match TcpListener::bind(rt, address) {
-        Ok(listener) => listener,
-        Err(error) => {
-            let why = unbound(error.kind());
-            return Err(LoopFault::Listen { address, why });
-        }
-    };
-    match poll
-        .registry()
-        .register(&mut listener, PORT, Interest::READABLE)
-    {
-        Ok(()) => Ok(listener),
-        Err(_) => Err(LoopFault::Wait),
-    }
-}
-
 impl Port {
     /// Listens on an address. Standard input is watched for its end, where it is a pipe or a terminal.
     pub fn open<R: Net>(rt: &R, alloc: Global, address: SocketAddr) -> Result<Port, LoopFault> {
@@ -67,7 +40,7 @@ impl Port {
             return Err(LoopFault::Wait);
         };
         let events = Events::with_capacity(alloc, EVENTS)?;
-        let listener = listen(rt, &poll, address)?;
+        let listener = listen(rt, &poll, PORT, address)?;
         let _ = poll
             .registry()
             .register(&mut SourceFd(&0), CONTROL, Interest::READABLE);

@@ -2,7 +2,8 @@
 
 use crate::late::{Held, Late};
 use crate::peer::Peer;
-use crate::telling::{Event, Telling};
+use crate::telling::{Event, tell_rule};
+use iso_edge::Telling;
 use iso_host::Link;
 use iso_order::NoMemory;
 use iso_script::{Behaviour, Scripted};
@@ -141,7 +142,7 @@ impl<'l, S: Read + Write + Drop, W: Write> Peers<'l, S, W> {
         self.out.clear();
         let behaviour = scripted.answer(self.link, body, &mut self.out)?;
         peer.came.advance(used);
-        self.told.tell_rule(peer.number, &behaviour);
+        tell_rule(&mut self.told, peer.number, &behaviour);
         let deed = (&behaviour, now);
         let_out(self.alloc, key, peer, &mut self.late, deed, &self.out)?;
         Ok(true)

@@ -2,6 +2,7 @@
 
 use crate::edge::Port;
 use crate::peers::Peers;
+use iso_edge::{Looks, moment};
 use iso_host::Link;
 use iso_lines::{Control, LoopFault};
 use iso_script::Scripted;
@@ -11,38 +12,6 @@ use std::alloc::Global;
 use std::io::Write;
 use std::net::Net;
 use std::time::Clock;
-
-/// The milliseconds of a clock that never goes back.
-fn moment<R: Clock>(rt: &R) -> Result<u64, LoopFault> {
-    match rt.monotonic() {
-        Ok(time) => Ok(
-            time.as_secs()
-                .saturating_mul(1_000)
-                .saturating_add(u64::from(time.subsec_millis())),
-        ),
-        Err(_) => Err(LoopFault::Wait),
-    }
-}
-
-/// When a stop file was last looked for, in milliseconds.
-#[derive(Clone, Copy)]
-struct Looks {
-    last: u64,
-}
-
-impl Looks {
-    /// Whether the host stops now.
-    fn stops<C: Control>(&mut self, control: &mut C, has_ended: bool, now: u64) -> bool {
-        if has_ended {
-            return true;
-        }
-        if now.saturating_sub(self.last) < PAUSE {
-            return false;
-        }
-        self.last = now;
-        control.is_called_off()
-    }
-}
 
 /// Serves the peers that come on a port as the rules say, until it is stopped: then it ends after the turn. A rule that holds
 /// an answer back holds up no other. What happens is told to the writer, a line of JSON each, without an account number.
@@ -57,7 +26,7 @@ pub fn serve_script<R: Net + Clock, C: Control, W: Write + Drop>(
     told: W,
 ) -> Result<(), LoopFault> {
     let mut peers: Peers<'_, TcpStream, W> = Peers::new(alloc, link, bounds, told);
-    let mut looks = Looks { last: 0 };
+    let mut looks = Looks::every(PAUSE);
     let mut pause = 0u64;
     for _ in 0..u64::MAX {
         let has_ended = port.wait(pause, &mut peers, control)?;
@@ -66,7 +35,7 @@ pub fn serve_script<R: Net + Clock, C: Control, W: Write + Drop>(
         peers.hear_all(scripted, now);
         peers.deliver_due(now);
         let goes_on = peers.settle();
-        if looks.stops(control, has_ended, now) {
+        if looks.stop(control, has_ended, now).is_some() {
             return Ok(());
         }
         pause = pause_of(goes_on, peers.next_due(), now);

@@ -1,5 +1,5 @@
 -- When a peer is read from, and when it is closed.
-use Rattle.std.specs.Prelude.{ℕ, ◌+◌, Bool, true, false, not, ◌==◌, ◌&&◌, ◌||◌, nat_le, nat_lt}
+use Rattle.std.specs.Prelude.{ℕ, ◌+◌, Bool, true, false, not, ◌==◌, ◌&&◌, ◌||◌, nat_le}
 use Rattle.iso_script_peers.specs.declared.standing.Bounds.{Bounds}
 use Rattle.iso_script_peers.specs.declared.standing.Standing.{Standing}
 use Rattle.iso_script_peers.specs.declared.standing.Standing.TheVariants.{Open, Ended, Cut, Closed}

@@ -1,37 +1,34 @@
 -- Block after block of a stream.
-use Rattle.std.proofs.Common.{◌≡◌, ◌≢◌, ◌∙◌, ◌++◌, ◌⊎◌, inl, inr, ◌≤◌, ℕ, refl, sym, ap, subst, true, List, [], ◌∷◌, length, take, drop, append_assoc, append-nil, take-append-drop}
+use Rattle.std.proofs.Common.{◌≡◌, ◌∙◌, ◌++◌, inl, inr, ℕ, refl, sym, ap, subst, true, List, [], ◌∷◌, take, drop, append_assoc, append-nil, take-append-drop}
 use Rattle.std.proofs.KnownBytes.{Appends-trans, Appends-nil, Consumes-trans}
 use Rattle.std.specs.Prelude.{Option, Some, None, Result, Ok, Err}
 use Rattle.std.specs.Io.KnownBytes.{Appends, Consumes, Keeps, IsAtEnd}
 use Rattle.iso_table.specs.Layout.{Layout}
 use Rattle.iso_wire.specs.declared.header.Header.{Header}
 use Rattle.iso_wire.specs.declared.header.Header.TheVariants.{Binary2, Ascii4, Bcd2}
-use Rattle.iso_wire.specs.Framing.{frame_of, frames_of, AllFit, NoFrame, BadIsNoFrame, is_bad_header, largest}
+use Rattle.iso_wire.specs.Framing.{frames_of, AllFit, NoFrame, BadIsNoFrame, is_bad_header}
+use Rattle.iso_wire.proofs.FrameSplits.{frames_of-append, AllFit-append}
 use Rattle.iso_order.specs.Order.{Instruction}
 use Rattle.iso_issuer.specs.Books.{Books}
 use Rattle.iso_host.specs.Links.{agreed}
 use Rattle.iso_host.specs.Entering.{books_after_bodies, BodiesGoOn, StaysWithout}
 use Rattle.iso_host.specs.Output.{IsAnswer, IsOutputFrom, IsOutput}
 use Rattle.iso_host.specs.Peers.{Unfinished, Refuses, unfinished}
-use Rattle.iso_host.specs.Serving.{IsPrefix, Serves, IsWhole, standing}
-use Rattle.iso_host.specs.Writing.{WritesSome}
+use Rattle.iso_host.specs.Serving.{Serves, IsWhole, standing}
 use Rattle.iso_host.specs.declared.peer.PeerFault.{PeerFault}
 use Rattle.iso_host.specs.declared.peer.PeerFault.TheVariants as peer
 use Rattle.iso_peers.specs.Connection.{ConnectionState}
 use Rattle.iso_peers.specs.Turn.{TakesAll, StopsAt, at_books}
 use Rattle.iso_peers.specs.declared.turn.Turned.{Turned}
 use Rattle.iso_host.specs.declared.fault.Report.{Report}
+use Rattle.iso_host.proofs.OutputLemmas.{output_none}
+use Rattle.iso_host.proofs.ServeLemmas.{none_taken}
 use Rattle.iso_service.specs.Serving.{AreKept, EndsAt, Hands, Leaves, Stay, StayBehind, UnlessLog, WithoutMemory, stop_of}
 use Rattle.iso_service.specs.declared.fault.ServiceFault.{ServiceFault}
 use Rattle.iso_service.specs.declared.fault.ServiceFault.TheVariants.{Read, Write, BadHeader, CutFrame, Memory, Log}
-use Rattle.iso_service.proofs.Pieces.{body_alone}
+use Rattle.iso_peers.proofs.Pieces.{body_alone}
 
 -- ---- streams
-
-none_taken : (a b : Option (List ℕ)) → Keeps a b → Consumes a b []
-none_taken None b kept = tt
-none_taken (Some x) None kept = absurd kept
-none_taken (Some x) (Some y) kept = sym kept
 
 keeps_self : (a : Option (List ℕ)) → Consumes a a []
 keeps_self None = tt
@@ -49,15 +46,6 @@ no_byte Ascii4 body more fits e = cc
 no_byte Bcd2 body more fits e = cc
 
 -- ---- bodies behind others
-
-frames_append : (h : Header) (xs ys : List (List ℕ)) → frames_of h (xs ++ ys) ≡ frames_of h xs ++ frames_of h ys
-frames_append h [] ys = refl
-frames_append h (x ∷ xs) ys =
-    ap (λ (l : List ℕ). frame_of h x ++ l) (frames_append h xs ys) ∙ sym (append_assoc (frame_of h x) (frames_of h xs) (frames_of h ys))
-
-fit_append : (h : Header) (xs ys : List (List ℕ)) → AllFit h xs → AllFit h ys → AllFit h (xs ++ ys)
-fit_append h [] ys first second = second
-fit_append h (x ∷ xs) ys first second = (first.0, fit_append h xs ys first.1 second)
 
 -- output at the books after some bodies is output behind them
 output_behind : (t : Layout) (h : Header) (books : Books) (before earlier bodies : List (List ℕ)) (bytes : List ℕ) → BodiesGoOn
@@ -88,10 +76,6 @@ output_append : (t : Layout) (h : Header) (books : Books) (xs ys : List (List �
 unfolding IsOutput
 output_append t h books xs ys a b law first second =
     output_joined t h books [] xs ys a b first (subst (λ (l : List (List ℕ)). IsOutputFrom (agreed t h) books l ys b) (append-nil xs) (output_behind t h books xs [] ys b law second))
-
-output_none : (t : Layout) (h : Header) (books : Books) → IsOutput t h books [] []
-unfolding IsOutput
-output_none t h books = refl
 
 output_alone : (t : Layout) (h : Header) (books : Books) (body first : List ℕ) → books_after_bodies t books [] ≡ books → IsAnswer t h books body first
     → IsOutput t h books (body ∷ []) first
@@ -236,10 +220,10 @@ module _ (t : Layout) (h : Header) (unread held : Option (List ℕ)) (old : Book
           ∙ sym (append_assoc c.peer.held (take turned.used block) behind) ∙ ap (λ (l : List ℕ). l ++ behind) joined
           ∙ append_assoc (frames_of h taken.bodies) c2.peer.held behind)
           ∙ sym (append_assoc (frames_of h going.bodies) (frames_of h taken.bodies) (c2.peer.held ++ behind))
-          ∙ ap (λ (l : List ℕ). l ++ (c2.peer.held ++ behind)) (sym (frames_append h going.bodies taken.bodies))
+          ∙ ap (λ (l : List ℕ). l ++ (c2.peer.held ++ behind)) (sym (frames_of-append h going.bodies taken.bodies))
 
       all_fit : AllFit h all_bodies
-      all_fit = fit_append h going.bodies taken.bodies going.served.fit (subst (λ (k : Header). AllFit k taken.bodies) header taken.fit)
+      all_fit = AllFit-append h going.bodies taken.bodies going.served.fit (subst (λ (k : Header). AllFit k taken.bodies) header taken.fit)
 
       all_books : mid ≡ books_after_bodies t old all_bodies
       all_books = ap (λ (b : Books). books_after_bodies t b taken.bodies) going.served.books ∙ law t old going.bodies taken.bodies

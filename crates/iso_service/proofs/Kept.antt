@@ -1,7 +1,7 @@
 -- A host whose orders are all kept.
-use Rattle.std.proofs.Common.{◌≡◌, ◌∙◌, ◌++◌, ℕ, zero, suc, refl, sym, ap, subst, List, [], ◌∷◌, length, take, drop, append-nil}
+use Rattle.std.proofs.Common.{◌≡◌, ◌∙◌, ◌++◌, ℕ, refl, sym, ap, subst, List, [], ◌∷◌, length, take, drop, append-nil}
 use Rattle.iso_order.specs.Order.{Instruction}
-use Rattle.iso_durable.specs.Durable.{Durable, MayLeave}
+use Rattle.iso_durable.specs.Durable.{MayLeave}
 use Rattle.iso_durable.specs.Front.{LeavesFront}
 use Rattle.iso_peers.specs.Host.{durable_of, IsInStep, IsKept}
 use Rattle.iso_peers.specs.declared.durable_host.DurableHost.{DurableHost}

@@ -1,4 +1,3 @@
-mod Pieces
 mod Kept
 mod Blocks
 pub mod Why

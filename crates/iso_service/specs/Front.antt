@@ -1,5 +1,5 @@
 -- What the first bytes of a file tell.
-use Rattle.std.specs.Prelude.{◌==◌, ℕ, Bool, List, [], ◌∷◌, length, take, nat_lt, if◌then◌else◌, Option, Some, None, option_map}
+use Rattle.std.specs.Prelude.{◌==◌, ℕ, Bool, List, length, take, nat_lt, if◌then◌else◌, Option, Some, option_map}
 use Rattle.std.specs.List.{list_all}
 use Rattle.iso_record.specs.Heading.{heading_fault}
 use Rattle.iso_record.specs.declared.heading.HeadingFault.{HeadingFault}

@@ -1,6 +1,5 @@
 -- Whether what was given is refused.
 use Rattle.std.specs.Prelude.{Bool, true, false}
-use Rattle.iso_service.specs.declared.device.FileFault.{FileFault}
 use Rattle.iso_service.specs.declared.device.FileFault.TheVariants as file
 use Rattle.iso_service.specs.declared.fault.StartFault.{StartFault}
 use Rattle.iso_service.specs.declared.fault.StartFault.TheVariants.{File, Front, Damaged, Cut, NotMade, Unfit}

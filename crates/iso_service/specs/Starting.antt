@@ -4,7 +4,8 @@ use Rattle.iso_log.specs.Slots.{records_of}
 use Rattle.iso_durable.specs.declared.host.DurableIssuer.{DurableIssuer}
 use Rattle.iso_durable.specs.Host.{IsConsistent}
 use Rattle.iso_journal.specs.declared.journal.JournalLog.{JournalLog}
-use Rattle.iso_journal.specs.Orders.{journal_orders, IsReady, synced_orders, pending_orders}
+use Rattle.iso_log.specs.Headed.{IsReady}
+use Rattle.iso_journal.specs.Orders.{journal_orders, synced_orders, pending_orders}
 use Rattle.iso_service.specs.Front.{front_fault}
 use Rattle.iso_service.specs.declared.fault.StartFault.{StartFault}
 use Rattle.iso_service.specs.declared.fault.StartFault.TheVariants.{File, Front, Damaged, Cut, NotMade, Unfit}

@@ -3,7 +3,7 @@
 ghost use Rattle.std.specs.Prelude.{◌≡◌, ℕ, List, take, IfOk, IfSome, IsTrue};
 ghost use Rattle.std.specs.declared.option.Option.{Option};
 ghost use Rattle.sqlite_disk.specs.Disk.{Only};
-ghost use Rattle.iso_journal.specs.Orders.{IsReady};
+ghost use Rattle.iso_log.specs.Headed.{IsReady};
 
 use iso_journal::JournalLog;
 use sqlite_disk::Disk;

@@ -8,6 +8,8 @@ use Rattle.iso_order.specs.declared.act.Act.TheVariants.{Debit, Credit, Inquiry,
 use Rattle.iso_order.specs.declared.key.TxKey.{TxKey}
 use Rattle.iso_order.specs.Order.{Instruction, same_pan}
 use Rattle.iso_order.specs.Pan.{AccountNumber}
+use Rattle.iso_order.proofs.Lists.{every, all-weaker}
+use Rattle.iso_order.proofs.Same.{same_pan_is}
 use Rattle.iso_issuer.specs.declared.account.Account.{Account}
 use Rattle.iso_issuer.specs.declared.balances.Balance.{Balance}
 use Rattle.iso_issuer.specs.declared.effect.Side.TheVariants.{Held}
@@ -20,7 +22,7 @@ use Rattle.iso_issuer.specs.Books.{Books, journal}
 use Rattle.iso_issuer.specs.Decision.{journal_of}
 use Rattle.iso_shards.specs.Shards.{is_sent, is_own, accounts_in, IsShard, unplaced_entry}
 use Rattle.iso_shards.specs.Laws.{AgreeOn}
-use Rattle.iso_shards.proofs.Kept.{same_pan_is, all_map, every, IsKeptWith}
+use Rattle.iso_shards.proofs.Kept.{IsKeptWith}
 use Rattle.iso_shards.proofs.Kept.{kept}
 use Rattle.iso_shards.proofs.Seen.{account_there, IsSeen, total_seen, holds_seen, balance_seen}
 use Rattle.iso_shards.proofs.Seen.{journal_seen}
@@ -76,7 +78,7 @@ module _ (own : AccountNumber → Bool) (keep : Instruction → Bool) (one other
         ∙ sym (unplaced_filter (is_own own) (kept keep (journal one)))
         ∙ ap (map unplaced_entry)
         (filter_kept (λ (e : Entry). keep e.order) (λ (e : Entry). is_own own e.order) (journal one)
-        (all_map (λ (e : Entry). IsKeptWith own keep e.order)
+        (all-weaker (λ (e : Entry). IsKeptWith own keep e.order)
         (λ (e : Entry). is_own own e.order ≡ true → keep e.order ≡ true) (journal one)
         (λ e with_it. with_it.here) is_seen.all));
   }

@@ -9,11 +9,13 @@ use Rattle.iso_order.specs.declared.key.TxKey.{TxKey}
 use Rattle.iso_order.specs.Key.{same_key}
 use Rattle.iso_order.specs.Order.{Instruction}
 use Rattle.iso_order.specs.Pan.{AccountNumber}
+use Rattle.iso_order.proofs.Lists.{every, all-weaker}
+use Rattle.iso_order.proofs.Same.{same_key_is}
 use Rattle.iso_issuer.specs.Effect.{is_key}
 use Rattle.iso_issuer.specs.Journal.{undone_key}
 use Rattle.iso_shards.specs.Shards.{is_own, reverses_own, is_concerning, concerning}
-use Rattle.iso_shards.proofs.Kept.{all_map, every, any_kept}
-use Rattle.iso_shards.proofs.Together.{same_key_is, all_filter}
+use Rattle.iso_shards.proofs.Kept.{any_kept}
+use Rattle.iso_shards.proofs.Together.{all_filter}
 use Rattle.iso_shards.proofs.Concerned.{only_own, first_of_two}
 
 -- ---- two lists of orders, of accounts that are apart
@@ -127,7 +129,7 @@ module _ (own others : AccountNumber → Bool) (apart : AreApart own others)
       by_test false t = refl
       by_test true t =
           let none = any_none (λ (q : Instruction). is_own others q && same_key original q.key) ys
-          (all_map (λ (q : Instruction). is_own others q ≡ true → same_key k q.key ≡ false)
+          (all-weaker (λ (q : Instruction). is_own others q ≡ true → same_key k q.key ≡ false)
           (λ (q : Instruction). is_own others q && same_key original q.key ≡ false) ys each away)
           in cc
         where
@@ -145,7 +147,7 @@ module _ (own others : AccountNumber → Bool) (apart : AreApart own others)
       ≡ list_any t (concerning own xs) || list_any t (concerning others ys)) where
     pub in_first : AllByRecursion (λ x. is_concerning own all x ≡ true) (concerning own xs)
     in_first =
-        all_map (λ (x : Instruction). is_concerning own xs x ≡ true)
+        all-weaker (λ (x : Instruction). is_concerning own xs x ≡ true)
         (λ (x : Instruction). is_concerning own all x ≡ true) (concerning own xs) each
         (all_pass (is_concerning own xs) xs)
       where
@@ -181,7 +183,7 @@ module _ (own others : AccountNumber → Bool) (apart : AreApart own others)
 
     pub in_second : AllByRecursion (λ x. is_concerning own all x ≡ false) (concerning others ys)
     in_second =
-        all_map (λ (x : Instruction). is_concerning others ys x ≡ true)
+        all-weaker (λ (x : Instruction). is_concerning others ys x ≡ true)
         (λ (x : Instruction). is_concerning own all x ≡ false) (concerning others ys) each
         (all_pass (is_concerning others ys) ys)
       where
@@ -211,14 +213,14 @@ module _ (own others : AccountNumber → Bool) (apart : AreApart own others)
             none_first =
                 any_none t (concerning own xs)
                 (all_filter (λ (p : Instruction). t p ≡ false) (is_concerning own xs) xs
-                (all_map (λ (p : Instruction). is_own own p ≡ true →
+                (all-weaker (λ (p : Instruction). is_own own p ≡ true →
                 AllByRecursion (λ q. is_own others q ≡ true → same_key p.key q.key ≡ false) ys)
                 (λ (p : Instruction). t p ≡ false) xs away keys))
 
             none_second : list_any t (concerning others ys) ≡ false
             none_second =
                 any_none t (concerning others ys)
-                (all_map (λ (p : Instruction). is_concerning others ys p ≡ true)
+                (all-weaker (λ (p : Instruction). is_concerning others ys p ≡ true)
                 (λ (p : Instruction). t p ≡ false) (concerning others ys)
                 (λ p c. ap (λ b. b && is_key (undone_key x.act) p.key) (not_own p.key p.act c))
                 (all_pass (is_concerning others ys) ys))

@@ -1,6 +1,6 @@
 -- The books of two whose accounts are apart.
 use Rattle.std.proofs.Common.{◌≡◌, ℕ, Bool, true, false, cond, refl, ap, sym, ◌∙◌}
-use Rattle.std.proofs.Common.{zero, suc, subst, List, [], ◌∷◌, ◌++◌, append-nil, length}
+use Rattle.std.proofs.Common.{List, [], ◌∷◌, ◌++◌, append-nil, length}
 use Rattle.std.specs.Prelude.{◌||◌, Some, filter, slice_get}
 use Rattle.std.specs.List.{list_any, AllByRecursion}
 use Rattle.std.proofs.lemmas.List.Elements.{filter-append}
@@ -8,14 +8,15 @@ use Rattle.iso_order.specs.declared.key.TxKey.{TxKey}
 use Rattle.iso_order.specs.Key.{same_key}
 use Rattle.iso_order.specs.Order.{Instruction}
 use Rattle.iso_order.specs.Pan.{AccountNumber}
+use Rattle.iso_order.proofs.Same.{same_key_is}
+use Rattle.iso_order.proofs.Lists.{all-weaker}
 use Rattle.iso_issuer.specs.declared.account.Account.{Account}
 use Rattle.iso_issuer.specs.Books.{Books}
 use Rattle.iso_issuer.specs.Decision.{journal_of}
 use Rattle.iso_issuer.specs.Journal.{is_entered, HasDistinctKeys}
 use Rattle.iso_shards.specs.Shards.{is_own, is_concerning, concerning, accounts_in}
 use Rattle.iso_shards.specs.Laws.{AgreeOn}
-use Rattle.iso_shards.proofs.Kept.{all_map}
-use Rattle.iso_shards.proofs.Together.{same_key_is, all_from, all_filter}
+use Rattle.iso_shards.proofs.Together.{all_from, all_filter}
 use Rattle.iso_shards.proofs.Concerned.{concerned, concerned_agrees}
 use Rattle.iso_shards.proofs.Concerned.{agree_by}
 use Rattle.iso_shards.proofs.Apart.{AreApart, KeysAreApart, all_both, filter_all, filter_none}
@@ -57,17 +58,6 @@ distinct_append (x ∷ xs) ys one other away = (
       ∙ away.0,
   distinct_append xs ys one.1 other away.1,
 )
-
-pub all_append : {X : Type 0} (P : X → Type 0) (xs ys : List X) → AllByRecursion P xs
-    → AllByRecursion P ys → AllByRecursion P (xs ++ ys)
-all_append P [] ys one other = other
-all_append P (x ∷ xs) ys one other = (one.0, all_append P xs ys one.1 other)
-
-pub all_at : {X : Type 0} (P : X → Type 0) (xs : List X) (i : ℕ) (x : X) → AllByRecursion P xs
-    → slice_get xs i ≡ Some x → P x
-all_at P [] i x all at = cc
-all_at P (y ∷ ys) zero x all at = let one : y ≡ x = cc in subst P one all.0
-all_at P (y ∷ ys) (suc i) x all at = all_at P ys i x all.1 at
 
 -- ---- two books of accounts that are apart
 
@@ -173,7 +163,7 @@ module _ (own others : AccountNumber → Bool) (one other : Books) where
         filter-append (λ (a : Account). own a.pan) one.accounts other.accounts
         ∙ ap (λ l. accounts_in own one.accounts ++ l)
         (filter_none (λ (a : Account). own a.pan) other.accounts
-        (all_map (λ (a : Account). others a.pan ≡ true) (λ (a : Account). own a.pan ≡ false)
+        (all-weaker (λ (a : Account). others a.pan ≡ true) (λ (a : Account). own a.pan ≡ false)
         other.accounts (λ a is. apart_other a.pan is) other_rows))
         ∙ append-nil (accounts_in own one.accounts)
 
@@ -182,7 +172,7 @@ module _ (own others : AccountNumber → Bool) (one other : Books) where
         filter-append (λ (a : Account). others a.pan) one.accounts other.accounts
         ∙ ap (λ l. l ++ accounts_in others other.accounts)
         (filter_none (λ (a : Account). others a.pan) one.accounts
-        (all_map (λ (a : Account). own a.pan ≡ true) (λ (a : Account). others a.pan ≡ false)
+        (all-weaker (λ (a : Account). own a.pan ≡ true) (λ (a : Account). others a.pan ≡ false)
         one.accounts (λ a is. apart a.pan is) rows))
 
     pub agree_one : AgreeOn own both one

@@ -6,7 +6,6 @@ use Rattle.std.specs.Prelude.{◌==◌, ◌&&◌, ◌||◌, Option, Some, None, 
 use Rattle.std.specs.Prelude.{sum_by, pos, ◌+ℤ◌, ◌-ℤ◌, int_lt, if◌then◌else◌}
 use Rattle.std.specs.List.{list_any, AllByRecursion}
 use Rattle.std.specs.Option.{option_or}
-use Rattle.std.proofs.lemmas.Grind.{common_steps}
 use Rattle.std.proofs.lemmas.List.Folds.{find-append}
 use Rattle.std.proofs.lemmas.List.Sums.{sum_by-cons}
 use Rattle.iso_order.specs.declared.act.Act.TheVariants.{Debit, Complete}
@@ -15,6 +14,8 @@ use Rattle.iso_order.specs.declared.key.TxKey.{TxKey}
 use Rattle.iso_order.specs.Key.{class_digit, function_digit, same_key}
 use Rattle.iso_order.specs.Order.{Instruction, same_pan, same_currency}
 use Rattle.iso_order.specs.Pan.{AccountNumber}
+use Rattle.iso_order.proofs.Lists.{every, all-weaker}
+use Rattle.iso_order.proofs.Same.{same_key_sym}
 use Rattle.iso_issuer.specs.declared.account.Account.{Account}
 use Rattle.iso_issuer.specs.declared.balances.Balance.{Balance}
 use Rattle.iso_issuer.specs.declared.effect.Effect.{Effect}
@@ -33,7 +34,6 @@ use Rattle.iso_issuer.specs.Journal.{reversal_of, is_nothing, is_reversed, small
 use Rattle.iso_issuer.specs.Journal.{is_counted_with, is_counted}
 use Rattle.iso_issuer.specs.Journal.{is_completed, is_ended, weight, HasDistinctKeys}
 use Rattle.iso_shards.specs.Laws.{IsAsDebit}
-use Rattle.iso_shards.proofs.Kept.{every, all_map}
 use Rattle.iso_shards.proofs.Places.{completes}
 use Rattle.iso_shards.proofs.Steps.{IssuerLaws, all_of_map}
 
@@ -183,7 +183,7 @@ module _ (j : List Entry) (key hold : TxKey) (m : Money) (two : class_digit key 
     module _ (away : AllByRecursion (λ x. same_key hold x.order.key ≡ false) j) where
       ends_none : EndsNone j completed
       ends_none =
-          all_map (λ (x : Entry). same_key hold x.order.key ≡ false) _ j
+          all-weaker (λ (x : Entry). same_key hold x.order.key ≡ false) _ j
           (λ x other pan. ap (λ b. b && same_pan m.pan pan) other) away
 
       total_completed : (side : Side) (pan : AccountNumber)
@@ -245,9 +245,6 @@ module _ (j : List Entry) (key hold : TxKey) (m : Money) (two : class_digit key 
           }
 
 -- ---- the law
-
-same_key_sym : (a b : TxKey) → same_key a b ≡ same_key b a
-same_key_sym a b = grind (arith, common_steps)
 
 -- no order has this key
 each_away : (hold : TxKey) (os : List Instruction) → is_entered os hold ≡ false

@@ -1,9 +1,8 @@
 -- The orders that concern a shard are all that counts there.
-use Rattle.std.proofs.Common.{◌≡◌, ℕ, Bool, true, false, cond, refl, arith, ap, sym, ◌∙◌, subst}
+use Rattle.std.proofs.Common.{◌≡◌, ℕ, Bool, true, false, cond, refl, ap, sym, ◌∙◌, subst}
 use Rattle.std.proofs.Common.{zero, suc, List, [], ◌∷◌, ◌++◌, append-nil}
 use Rattle.std.specs.Prelude.{◌&&◌, ◌||◌, Some, map, filter, slice_get}
 use Rattle.std.specs.List.{list_any, AllByRecursion}
-use Rattle.std.proofs.lemmas.Grind.{common_steps}
 use Rattle.std.proofs.lemmas.List.Elements.{filter-append, filter_agree}
 use Rattle.iso_order.specs.declared.act.Act.{Act}
 use Rattle.iso_order.specs.declared.act.Act.TheVariants.{Debit, Credit, Inquiry, Undo, Complete}
@@ -11,6 +10,7 @@ use Rattle.iso_order.specs.declared.key.TxKey.{TxKey}
 use Rattle.iso_order.specs.Key.{same_key}
 use Rattle.iso_order.specs.Order.{Instruction}
 use Rattle.iso_order.specs.Pan.{AccountNumber}
+use Rattle.iso_order.proofs.Same.{same_key_sym}
 use Rattle.iso_issuer.specs.declared.account.Account.{Account}
 use Rattle.iso_issuer.specs.declared.effect.Side.TheVariants.{Held}
 use Rattle.iso_issuer.specs.declared.journal.Entry.{Entry}
@@ -138,9 +138,6 @@ stand_anywhere own one other accounts orders =
     ∙ ap (journal_of (accounts_in own one.accounts)) orders)
 
 -- ---- a reversal of what isn't there
-
-same_key_sym : (a b : TxKey) → same_key a b ≡ same_key b a
-same_key_sym a b = grind (arith, common_steps)
 
 module _ (own : AccountNumber → Bool) (key original : TxKey) (left : ℕ) where
   stray : Instruction

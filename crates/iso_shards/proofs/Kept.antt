@@ -3,13 +3,14 @@ use Rattle.std.proofs.Common.{◌≡◌, ℕ, Bool, true, false, cond, not, refl
 use Rattle.std.proofs.Common.{List, [], ◌∷◌}
 use Rattle.std.specs.Prelude.{◌&&◌, ◌||◌, Some, option_map, map, filter, find, sum_by}
 use Rattle.std.specs.List.{list_any, AllByRecursion}
-use Rattle.std.proofs.lemmas.Grind.{common_steps}
 use Rattle.std.proofs.lemmas.List.Sums.{sum_by-cons}
 use Rattle.iso_order.specs.declared.act.Act.{Act}
 use Rattle.iso_order.specs.declared.act.Act.TheVariants.{Debit, Credit, Inquiry, Undo, Complete}
 use Rattle.iso_order.specs.declared.key.TxKey.{TxKey}
 use Rattle.iso_order.specs.Order.{Instruction, same_pan}
 use Rattle.iso_order.specs.Pan.{AccountNumber}
+use Rattle.iso_order.proofs.Lists.{every, all-weaker}
+use Rattle.iso_order.proofs.Same.{same_pan_is}
 use Rattle.iso_issuer.specs.declared.effect.Side.{Side}
 use Rattle.iso_issuer.specs.declared.effect.Side.TheVariants.{Held}
 use Rattle.iso_issuer.specs.declared.holds.OpenHold.{OpenHold}
@@ -25,15 +26,6 @@ use Rattle.iso_shards.specs.Shards.{is_own}
 use Rattle.iso_shards.proofs.Places.{completes}
 
 -- ---- lists of which some elements are left out
-
-pub all_map : {X : Type 0} (P Q : X → Type 0) (xs : List X) → ((x : X) → P x → Q x)
-    → AllByRecursion P xs → AllByRecursion Q xs
-all_map P Q [] f all = tt
-all_map P Q (x ∷ xs) f all = (f x all.0, all_map P Q xs f all.1)
-
-pub every : {X : Type 0} (P : X → Type 0) (xs : List X) → ((x : X) → P x) → AllByRecursion P xs
-every P [] f = tt
-every P (x ∷ xs) f = (f x, every P xs f)
 
 -- what the test finds is kept
 pub find_kept : {X : Type 0} (p q : X → Bool) (xs : List X)
@@ -93,9 +85,6 @@ both_on true b h = h
 both_on false b h = cc
 
 -- ---- what names an account of the shard
-
-pub same_pan_is : (a b : AccountNumber) → same_pan a b ≡ true → a ≡ b
-same_pan_is a b h = grind (arith, common_steps)
 
 own_by : (own : AccountNumber → Bool) (a b : AccountNumber) → own b ≡ true → same_pan a b ≡ true
     → own a ≡ true
@@ -160,7 +149,7 @@ module _ (own : AccountNumber → Bool) (keep : Instruction → Bool) (j : List 
       → is_completed (kept keep j) key pan ≡ is_completed j key pan
   completed key pan is =
       any_kept (λ (e : Entry). keep e.order) (completes (kept keep j) key pan) (completes j key pan)
-      j (all_map (λ (e : Entry). IsKeptWith own keep e.order) (λ (e : Entry).
+      j (all-weaker (λ (e : Entry). IsKeptWith own keep e.order) (λ (e : Entry).
       (completes j key pan e ≡ true → keep e.order ≡ true)
       × (keep e.order ≡ true → completes (kept keep j) key pan e ≡ completes j key pan e))
       j each all)
@@ -214,7 +203,7 @@ module _ (own : AccountNumber → Bool) (keep : Instruction → Bool) (j : List 
       sum_kept (λ (e : Entry). keep e.order)
       (λ e. share side pan (effect_of e.order) (weight (kept keep j) e))
       (λ e. share side pan (effect_of e.order) (weight j e))
-      j (all_map (λ (e : Entry). IsKeptWith own keep e.order) _ j each all)
+      j (all-weaker (λ (e : Entry). IsKeptWith own keep e.order) _ j each all)
     where
       each : (e : Entry) → IsKeptWith own keep e.order
           → (keep e.order ≡ false → share side pan (effect_of e.order) (weight j e) ≡ 0)

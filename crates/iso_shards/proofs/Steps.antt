@@ -10,6 +10,8 @@ use Rattle.iso_order.specs.Key.{same_key}
 use Rattle.iso_order.specs.Order.{Instruction, same_order}
 use Rattle.iso_order.specs.Outcome.{Outcome, code_alone}
 use Rattle.iso_order.specs.Pan.{AccountNumber}
+use Rattle.iso_order.proofs.Same.{same_key_is}
+use Rattle.iso_order.proofs.Lists.{all-weaker}
 use Rattle.iso_issuer.specs.declared.account.Account.{Account}
 use Rattle.iso_issuer.specs.declared.fault.Refused.{Refused}
 use Rattle.iso_issuer.specs.declared.journal.Entry.{Entry}
@@ -23,10 +25,10 @@ use Rattle.iso_shards.specs.Shards.{KeysGoTogether, unplaced, unplaced_entry, un
 use Rattle.iso_shards.specs.Shards.{results_in}
 use Rattle.iso_shards.specs.Laws.{IsRoomForAll}
 use Rattle.iso_shards.proofs.Places.{entry_unplaced}
-use Rattle.iso_shards.proofs.Kept.{find_kept, all_map, kept}
+use Rattle.iso_shards.proofs.Kept.{find_kept, kept}
 use Rattle.iso_shards.proofs.Seen.{answer_same}
 use Rattle.iso_shards.proofs.Agreed.{sent_is_kept, shard_seen}
-use Rattle.iso_shards.proofs.Together.{same_key_is, firsts_sent, with_last, go_front, go_without}
+use Rattle.iso_shards.proofs.Together.{firsts_sent, with_last, go_front, go_without}
 
 -- what the laws of the issuer say
 pub record IssuerLaws : Type 0 where
@@ -85,7 +87,7 @@ module _ (laws : IssuerLaws) (own : AccountNumber → Bool) (whole shard : Books
         there =
             subst (AllByRecursion (λ p. same_key p.key o.key ≡ true → is_sent own p ≡ true))
             (sym (laws.orders whole.accounts whole.orders))
-            (all_map (λ (p : Instruction). o.key ≡ p.key → is_sent own o ≡ is_sent own p)
+            (all-weaker (λ (p : Instruction). o.key ≡ p.key → is_sent own o ≡ is_sent own p)
             (λ (p : Instruction). same_key p.key o.key ≡ true → is_sent own p ≡ true)
             whole.orders
             (λ p goes same. sym (goes (sym (same_key_is p.key o.key same))) ∙ sent)

@@ -1,21 +1,18 @@
 -- Orders of one key that go together: of those that are sent to a shard the first ones are those of
 -- the first ones that are sent there.
-use Rattle.std.proofs.Common.{◌≡◌, ℕ, Bool, true, false, cond, not, refl, arith, ap, sym, ◌∙◌}
+use Rattle.std.proofs.Common.{◌≡◌, ℕ, Bool, true, false, cond, not, refl, ap, sym, ◌∙◌}
 use Rattle.std.proofs.Common.{zero, suc, List, [], ◌∷◌, ◌++◌}
 use Rattle.std.specs.Prelude.{Some, filter, slice_get}
 use Rattle.std.specs.List.{AllByRecursion}
-use Rattle.std.proofs.lemmas.Grind.{common_steps}
 use Rattle.iso_order.specs.declared.key.TxKey.{TxKey}
 use Rattle.iso_order.specs.Key.{same_key}
 use Rattle.iso_order.specs.Order.{Instruction}
 use Rattle.iso_order.specs.Pan.{AccountNumber}
+use Rattle.iso_order.proofs.Same.{same_key_is}
+use Rattle.iso_order.proofs.Lists.{all-weaker}
 use Rattle.iso_issuer.specs.Journal.{firsts}
 use Rattle.iso_shards.specs.Shards.{is_sent_by, is_sent, sent_to}
 use Rattle.iso_shards.specs.Shards.{KeysGoTogether, KeysNameOneAccount}
-use Rattle.iso_shards.proofs.Kept.{all_map}
-
-pub same_key_is : (a b : TxKey) → same_key a b ≡ true → a ≡ b
-same_key_is a b h = grind (arith, common_steps)
 
 -- ---- what is true at each place is true of all
 
@@ -111,7 +108,7 @@ module _ (own : AccountNumber → Bool) where
       by_test false off rest all =
           rest
           ∙ sym (filter_without (is_sent own) o.key (firsts os)
-          (all_map (λ (p : Instruction). p.key ≡ o.key → is_sent own p ≡ is_sent own o)
+          (all-weaker (λ (p : Instruction). p.key ≡ o.key → is_sent own p ≡ is_sent own o)
           (λ (p : Instruction). same_key p.key o.key ≡ true → is_sent own p ≡ false)
           (firsts os) (λ p goes same. goes (same_key_is p.key o.key same) ∙ off) all))
 

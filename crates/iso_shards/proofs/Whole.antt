@@ -9,6 +9,7 @@ use Rattle.iso_order.specs.declared.act.Act.TheVariants.{Debit, Credit, Inquiry,
 use Rattle.iso_order.specs.declared.key.TxKey.{TxKey}
 use Rattle.iso_order.specs.Order.{Instruction}
 use Rattle.iso_order.specs.Pan.{AccountNumber}
+use Rattle.iso_order.proofs.Lists.{every, all-at, all-weaker, all-join}
 use Rattle.iso_issuer.specs.declared.account.Account.{Account}
 use Rattle.iso_issuer.specs.declared.journal.Entry.{Entry}
 use Rattle.iso_issuer.specs.Books.{Books, journal}
@@ -20,11 +21,11 @@ use Rattle.iso_issuer.specs.Effect.{is_key}
 use Rattle.iso_issuer.specs.Journal.{undone_key}
 use Rattle.iso_shards.specs.Shards.{reverses_own}
 use Rattle.iso_shards.proofs.Concerned.{first_of_two, second_of_two}
-use Rattle.iso_shards.proofs.Kept.{all_map, every, any_kept}
+use Rattle.iso_shards.proofs.Kept.{any_kept}
 use Rattle.iso_shards.proofs.Agreed.{unplaced_filter, filter_kept}
 use Rattle.iso_shards.proofs.Together.{all_from, all_filter}
 use Rattle.iso_shards.proofs.Apart.{AreApart}
-use Rattle.iso_shards.proofs.Both.{all_append, all_at, AreGivenOnce, both, agree_one, agree_other}
+use Rattle.iso_shards.proofs.Both.{AreGivenOnce, both, agree_one, agree_other}
 use Rattle.iso_shards.proofs.Both.{concerns_one, concerns_other}
 use Rattle.iso_shards.proofs.Both.{both_distinct}
 
@@ -146,12 +147,12 @@ module _ (shard_of : AccountNumber → ℕ) (shards : ℕ → Books) where
       → AllByRecursion (λ a. below count a.pan ≡ true) (accounts_of_all count shards)
   rows_below zero are = tt
   rows_below (suc n) are =
-      all_append (λ (a : Account). below (suc n) a.pan ≡ true) (accounts_of_all n shards)
+      all-join (λ (a : Account). below (suc n) a.pan ≡ true) (accounts_of_all n shards)
       (shards n).accounts
-      (all_map (λ (a : Account). below n a.pan ≡ true) (λ (a : Account). below (suc n) a.pan ≡ true)
+      (all-weaker (λ (a : Account). below n a.pan ≡ true) (λ (a : Account). below (suc n) a.pan ≡ true)
       (accounts_of_all n shards) (λ a is. one_more a.pan is)
       (rows_below n (λ m less. are m (omega arith))))
-      (all_map (λ (a : Account). numbers_of shard_of n a.pan ≡ true)
+      (all-weaker (λ (a : Account). numbers_of shard_of n a.pan ≡ true)
       (λ (a : Account). below (suc n) a.pan ≡ true) (shards n).accounts
       (λ a is. one_below n (suc n) (omega arith) a.pan is) (are n (omega arith)).0)
     where
@@ -172,7 +173,7 @@ module _ (shard_of : AccountNumber → ℕ) (shards : ℕ → Books) where
       (is_whole : IsWholeOf shard_of n shards some) where
     given_once : AreGivenOnce some.orders (shards n).orders
     given_once i j o p at_o at_p same =
-        let taken = all_at (WasTaken n shards) some.orders i o is_whole.taken at_o in
+        let taken = all-at (WasTaken n shards) some.orders i o is_whole.taken at_o in
         once taken.by n taken.place j o p (omega (arith, taken.within)) (omega arith)
         taken.there at_p same
 
@@ -197,10 +198,10 @@ module _ (shard_of : AccountNumber → ℕ) (shards : ℕ → Books) where
               both_distinct own others some (shards n) (below_apart n) given_once rows last.0
               is_whole.once last.1;
           taken =
-              all_append (WasTaken (suc n) shards) (concerning own some.orders)
+              all-join (WasTaken (suc n) shards) (concerning own some.orders)
               (concerning others (shards n).orders)
               (all_filter (WasTaken (suc n) shards) (is_concerning own some.orders) some.orders
-              (all_map (WasTaken n shards) (WasTaken (suc n) shards) some.orders (taken_too n)
+              (all-weaker (WasTaken n shards) (WasTaken (suc n) shards) some.orders (taken_too n)
               is_whole.taken))
               (all_filter (WasTaken (suc n) shards) (is_concerning others (shards n).orders)
               (shards n).orders (all_from (WasTaken (suc n) shards) (shards n).orders (λ i o at.

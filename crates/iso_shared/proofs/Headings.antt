@@ -5,22 +5,20 @@ use Rattle.std.proofs.lemmas.Bool.Decides.{nat_tests}
 use Rattle.std.proofs.lemmas.Slice.Eq.{bytes_eq-Decides}
 use Rattle.std.specs.List.{list_all}
 use Rattle.std.proofs.lemmas.List.{take_at, drop_at}
-use Rattle.std.proofs.lemmas.List.Folds.{list_all-append, list_all_at}
+use Rattle.std.proofs.lemmas.List.Folds.{list_all_at}
 use Rattle.std.proofs.lemmas.Bool.{and_from, and_parts}
 use Rattle.hex.specs.Hex.{encode_lower, encode_with, lower_digits, decode_sized, IsBytes}
 use Rattle.hex.proofs.HexLemmas.{length-encode_with, decode_sized-encode_lower}
 use Rattle.iso_wire.specs.Decimal.{decimal, number_in, is_digit}
+use Rattle.iso_wire.proofs.Decimals.{list_all-decimal, length-decimal, number-decimal, are_digits-decimal}
 use Rattle.iso_log.specs.Slots.{is_nonzero, is_whole}
 use Rattle.iso_shared.specs.declared.heading.Writer.{Writer}
 use Rattle.iso_shared.specs.declared.heading.Heading.{Heading as Head}
 use Rattle.iso_shared.specs.Heading.{magic, heading_bytes, heading_by, heading_in, writer_by, is_writer, is_heading}
 use Rattle.iso_record.specs.Row.{blanks, part}
-use Rattle.iso_shared.proofs.Digits.{length-decimal, number-decimal, are_digits-decimal, list_all-decimal}
+use Rattle.iso_record.proofs.Back.{nonzero_both}
 
 -- ---- no byte is zero
-
-nonzero_both : (xs ys : List ℕ) → list_all is_nonzero xs ≡ true → list_all is_nonzero ys ≡ true → list_all is_nonzero (xs ++ ys) ≡ true
-nonzero_both xs ys a b = list_all-append is_nonzero xs ys ∙ and_from _ _ a b
 
 nonzero_of : (xs : List ℕ) → list_all is_digit xs ≡ true → list_all is_nonzero xs ≡ true
 nonzero_of [] h = refl
@@ -30,10 +28,6 @@ nonzero_of (x ∷ xs) h =
   where
     one : (x : ℕ) → is_digit x ≡ true → is_nonzero x ≡ true
     one x d = grind (arith, nat_tests, d)
-
-nonzero_blanks : (n : ℕ) → list_all is_nonzero (blanks n) ≡ true
-nonzero_blanks zero = refl
-nonzero_blanks (suc n) = nonzero_blanks n
 
 length-magic : length magic ≡ 28
 unfolding magic

@@ -1,5 +1,4 @@
 mod Batches
-mod Digits
 mod Events
 mod Follow
 mod Headings

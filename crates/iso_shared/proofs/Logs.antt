@@ -1,8 +1,9 @@
 -- What the calls of a log do to its orders.
-use Rattle.std.proofs.Common.{◌≡◌, ◌∙◌, ◌⊎◌, inl, inr, ◌≤◌, ℕ, zero, suc, ◌+◌, Bool, true, false, List, [], ◌∷◌, ◌++◌, length, take, drop, append_assoc, append-nil, length-append, length-take, refl, sym, ap, subst, arith}
+use Rattle.std.proofs.Common.{◌≡◌, ◌∙◌, ◌⊎◌, inl, inr, ◌≤◌, ℕ, zero, suc, ◌+◌, Bool, true, false, List, [], ◌∷◌, ◌++◌, length, take, drop, append_assoc, append-nil, length-append, refl, sym, ap, subst, arith}
 use Rattle.std.specs.Prelude.{Some, slice_get, MatchBool}
 use Rattle.std.proofs.lemmas.List.{take-append-le, drop-append-le, take_more, map-append}
 use Rattle.std.proofs.lemmas.Option.{slice_get_within, get_or_from_slice_get}
+use Rattle.iso_log.proofs.Behind.{take_long}
 use Rattle.iso_order.specs.Order.{Instruction}
 use Rattle.iso_record.specs.declared.row.Row.{Row}
 use Rattle.iso_durable.specs.Front.{LeavesFront}
@@ -33,9 +34,6 @@ still_within n old new grows le = omega (arith, le, length-append old grows.0, a
 pub front_more : (n : ℕ) (xs : List (List ℕ)) (x : List ℕ) → slice_get xs n ≡ Some x → take (n + 1) xs ≡ take n xs ++ x ∷ []
 front_more n xs x e =
     take_more xs n [] (slice_get_within xs n x e) ∙ ap (λ (y : List ℕ). take n xs ++ y ∷ []) (get_or_from_slice_get xs n x [] e)
-
-length-front : (n : ℕ) (xs : List (List ℕ)) → n ≤ length xs → length (take n xs) ≡ n
-length-front n xs le = length-take n xs ∙ omega (arith, le)
 
 module _ {S P : Type 0} (kept sent : S → List (List ℕ)) (old new : SharedLog S P) where
   abbrev was : List (List ℕ)
@@ -97,7 +95,7 @@ module _ {S P : Type 0} (kept sent : S → List (List ℕ)) (old new : SharedLog
         ap (λ n. orders_in (batches_of (drop n (take new.seen now)))) synced
         ∙ ap (λ (l : List (List ℕ)). orders_in (batches_of (drop old.synced l))) fronts_more
         ∙ ap (λ (l : List (List ℕ)). orders_in (batches_of l))
-        (drop-append-le old.synced (take old.seen was) (made_bytes old ∷ []) (omega (arith, is.behind, length-front old.seen was is.known)))
+        (drop-append-le old.synced (take old.seen was) (made_bytes old ∷ []) (omega (arith, is.behind, take_long old.seen was is.known)))
         ∙ orders_of_both (drop old.synced (take old.seen was)) (made_bytes old ∷ [])
         ∙ ap (λ (l : List Instruction). since kept old ++ l) (one_batch back (made old) sends.filed)
 

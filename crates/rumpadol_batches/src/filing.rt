@@ -2,7 +2,7 @@
 ghost use Rattle.std.specs.Prelude.{◌≡◌, ◌≤◌, ◌<◌, ◌+◌, ◌*◌, ◌/◌, ◌^◌, ◌++◌, ◌∷◌, length, OnOk, IfOk, IsTrue};
 ghost use Rattle.iso_log.specs.Slots.{slot, records_of};
 ghost use Rattle.iso_log.specs.Log.{IsLog};
-ghost use Rattle.iso_journal.specs.Orders.{IsReady};
+ghost use Rattle.iso_log.specs.Headed.{IsReady};
 ghost use Rattle.rumpadol_batches.specs.Filing.{slots_of};
 
 use iso_journal::JournalLog;

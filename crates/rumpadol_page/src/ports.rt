@@ -2,7 +2,8 @@
 
 use crate::site::Site;
 use crate::visitor::{Turn, Visitor};
-use iso_lines::{LoopFault, Unbound};
+use iso_edge::{listen, moment};
+use iso_lines::LoopFault;
 use mio::net::{TcpListener, TcpStream};
 use mio::{Events, Interest, Poll, Token};
 use std::alloc::Global;
@@ -34,29 +35,6 @@ pub(crate) struct Ports {
     /// The one of [::1], where the system has it.
     second: Option<TcpListener>,
     visitors: Vec<Option<Visitor>>,
-}
-
-/// Listens on an address.
-fn listen<R: Net>(
-    rt: &R,
-    poll: &Poll,
-    token: Token,
-    address: SocketAddr,
-) -> Result<TcpListener, LoopFault> {
-    let mut listener = match TcpListener::bind(rt, address) {
-        Ok(listener) => listener,
-        Err(error) => {
-            let why = Unbound::of(error.kind());
-            return Err(LoopFault::Listen { address, why });
-        }
-    };
-    match poll
-        .registry()
-        .register(&mut listener, token, Interest::READABLE)
-    {
-        Ok(()) => Ok(listener),
-        Err(_) => Err(LoopFault::Wait),
-    }
 }
 
 /// Room for visitors, of whom none is there.
@@ -164,18 +142,6 @@ fn close_silent(visitors: &mut [Option<Visitor>], now: u64) {
         if is_silent(place, now) {
             place.take();
         }
-    }
-}
-
-/// The milliseconds of a clock that never goes back.
-fn moment<R: Clock>(rt: &R) -> Result<u64, LoopFault> {
-    match rt.monotonic() {
-        Ok(time) => Ok(
-            time.as_secs()
-                .saturating_mul(1_000)
-                .saturating_add(u64::from(time.subsec_millis())),
-        ),
-        Err(_) => Err(LoopFault::Wait),
     }
 }
 

@@ -1,5 +1,5 @@
 -- What is done with tables.
-use Rattle.std.specs.Prelude.{◌≡◌, ◌↔◌, Bool, false, ℕ, List, [], ◌∷◌, ◌++◌, Option, None, is_some, codes, decimal, Result, Ok}
+use Rattle.std.specs.Prelude.{◌≡◌, ◌↔◌, Bool, false, ℕ, List, [], ◌∷◌, ◌++◌, None, is_some, codes, decimal, Result, Ok}
 use Rattle.std.specs.List.{count_by}
 use Rattle.std.specs.Io.KnownBytes.{Appends}
 use Rattle.serde_json.specs.Written.{compact_text}

@@ -1,4 +1,4 @@
-use Rattle.std.proofs.Common.{◌≡◌, ℕ, ◌+◌, ◌≤◌, List, length}
+use Rattle.std.proofs.Common.{length}
 use Rattle.iso_compare.proofs.Frames.{Counted}
 use Rattle.iso_compare.proofs.splitting.count_frames.Given as goal
 

@@ -1,4 +1,4 @@
-use Rattle.std.proofs.Common.{◌≡◌, ◌∙◌, ◌≤◌, List, ℕ, length, take, sym, refl, ap, arith, subst}
+use Rattle.std.proofs.Common.{◌∙◌, List, ℕ, sym, arith, subst}
 use Rattle.sqlite_disk.specs.Disk.{Holds}
 use Rattle.iso_diary.specs.Heading.{heading_bytes, heading_fault}
 use Rattle.iso_diary.proofs.Scanned.{first_other}

@@ -1,5 +1,4 @@
-use Rattle.std.proofs.Common.{◌≡◌, ◌∙◌, ◌++◌, [], ℕ, List, sym, ap}
-use Rattle.iso_log.specs.Slots.{records_of}
+use Rattle.std.proofs.Common.{◌∙◌, sym, ap}
 use Rattle.iso_diary.specs.Notes.{diary_notes}
 use Rattle.iso_diary.proofs.Scanned.{none_waits, all_synced}
 use Rattle.iso_diary.proofs.opening.open.Goals as goal

@@ -1,4 +1,4 @@
-use Rattle.std.proofs.Common.{◌∙◌, ◌++◌, List, ℕ, arith, sym, ap, take}
+use Rattle.std.proofs.Common.{◌∙◌, ◌++◌, List, ℕ, arith, sym, ap}
 use Rattle.std.proofs.lemmas.List.{take_all}
 use Rattle.iso_record.specs.Row.{answer_bytes}
 use Rattle.iso_diary.specs.Line.{no_answer}

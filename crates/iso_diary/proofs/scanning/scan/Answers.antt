@@ -1,10 +1,9 @@
-use Rattle.std.proofs.Common.{◌≡◌, ◌∙◌, ◌≤◌, ◌<◌, ◌*◌, ◌+◌, ◌++◌, [], ℕ, List, length, sym, refl, ap, subst, arith}
-use Rattle.iso_log.specs.Slots.{slot, records_of}
+use Rattle.std.proofs.Common.{◌≡◌, ◌∙◌, ◌+◌, ◌++◌, ℕ, List, ap, subst, arith}
+use Rattle.iso_log.specs.Slots.{slot, slots_from}
+use Rattle.iso_log.proofs.Behind.{behind, all_behind}
 use Rattle.iso_diary.specs.Notes.{notes_of}
-use Rattle.iso_diary.specs.Pieces.{slots_from}
 use Rattle.iso_diary.specs.Kept.{AreLines, IsLineAt}
 use Rattle.iso_diary.proofs.Pieces.{some_noted, some_read, some_damaged}
-use Rattle.iso_diary.proofs.Scanned.{behind, all_behind}
 use Rattle.iso_diary.proofs.scanning.scan.Goals as goal
 
 pub returns-then-scanned-some-clause-fault : goal.returns-then-scanned-some-clause-fault

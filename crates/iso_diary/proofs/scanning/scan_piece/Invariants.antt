@@ -1,6 +1,6 @@
 use Rattle.std.proofs.Common.{◌≡◌, ◌++◌}
+use Rattle.iso_log.specs.Slots.{slots_from}
 use Rattle.iso_diary.specs.Notes.{notes_of}
-use Rattle.iso_diary.specs.Pieces.{slots_from}
 use Rattle.iso_diary.specs.Kept.{AreLines}
 use Rattle.iso_diary.proofs.scanning.scan_piece.Given as goal
 

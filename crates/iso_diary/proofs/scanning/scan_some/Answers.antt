@@ -1,4 +1,4 @@
-use Rattle.std.proofs.Common.{◌≡◌, ◌∙◌, ◌≤◌, ◌<◌, ◌*◌, ◌+◌, ◌/◌, ℕ, List, length, arith, sym}
+use Rattle.std.proofs.Common.{◌≡◌, ◌∙◌, ◌*◌, length, arith}
 use Rattle.iso_log.proofs.Pieces.{some_long}
 use Rattle.iso_diary.proofs.Pieces.{file_read, file_more, file_not}
 use Rattle.iso_diary.proofs.scanning.scan_some.Goals as goal

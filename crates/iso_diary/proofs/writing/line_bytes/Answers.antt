@@ -1,4 +1,4 @@
-use Rattle.std.proofs.Common.{◌≡◌, ◌∙◌, ◌++◌, List, ℕ, arith, sym, ap, take}
+use Rattle.std.proofs.Common.{◌≡◌, ◌∙◌, ◌++◌, List, ℕ, arith, sym, ap}
 use Rattle.std.proofs.lemmas.List.{take_all}
 use Rattle.iso_log.specs.Slots.{is_whole}
 use Rattle.iso_diary.specs.Line.{body, letter, tail, line_bytes, IsLine}

@@ -1,14 +1,11 @@
-use Rattle.std.proofs.Common.{◌≡◌, List, [], ◌∷◌, ◌++◌, arith, sym, ap, ◌∙◌, subst, length, ◌+◌, ◌<◌}
-use Rattle.std.specs.Prelude.{Some}
+use Rattle.std.proofs.Common.{◌≡◌, List, [], ◌∷◌, ◌++◌, arith, sym, ap, ◌∙◌, subst, length, ◌+◌}
 use Rattle.iso_order.specs.declared.key.TxKey.{TxKey}
-use Rattle.iso_acquirer.specs.Acquirer.{transaction_of}
 use Rattle.iso_drive.specs.declared.made.Made.{Made}
-use Rattle.iso_drive.specs.declared.due.Due.{Due}
-use Rattle.iso_drive.specs.Due.{AreInTime}
-use Rattle.iso_drive.specs.Made.{made_of}
+use Rattle.iso_waits.specs.declared.due.Due.{Due}
+use Rattle.iso_waits.specs.Waits.{AreInTime}
 use Rattle.iso_drive.proofs.Boarded.{board-begun}
 use Rattle.iso_drive.proofs.Tabled.{made-begun, made-length}
-use Rattle.iso_drive.proofs.Waits.{in-time-push}
+use Rattle.iso_waits.proofs.Waits.{in-time-push}
 use Rattle.iso_drive.proofs.board.begin_again.Goals as goal
 
 pub returns-clause-board : goal.returns-clause-board

@@ -1,11 +1,11 @@
-use Rattle.std.proofs.Common.{◌≡◌, ◌∙◌, ap, sym, subst, refl, take}
+use Rattle.std.proofs.Common.{◌≡◌, ap, sym, subst, take}
 use Rattle.std.specs.Prelude.{Err, IsErrOf}
 use Rattle.std.proofs.lemmas.Result.{err_from_is_err_and}
 use Rattle.iso_restarts.specs.declared.durable.Fault.TheVariants.{Damaged}
 use Rattle.iso_restarts.specs.Diary.{party_after}
+use Rattle.iso_restarts.proofs.Replayed.{can-at}
 use Rattle.iso_drive.specs.Board.{IsBoard}
-use Rattle.iso_drive.proofs.Boarded.{board-none}
-use Rattle.iso_drive.proofs.Notes.{slots-next, can-at}
+use Rattle.iso_drive.proofs.Notes.{slots-next}
 use Rattle.iso_drive.proofs.board.board_after.Goals as goal
 
 -- a fault is handed on

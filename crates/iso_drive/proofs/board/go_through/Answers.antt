@@ -1,12 +1,11 @@
 use Rattle.std.proofs.Common.{List, sym, subst, ap}
 use Rattle.iso_restarts.specs.declared.note.Note.{Note}
 use Rattle.iso_restarts.specs.Diary.{slots_noted}
-use Rattle.iso_drive.specs.declared.due.Due.{Due}
 use Rattle.iso_drive.specs.declared.made.Made.{Made}
 use Rattle.iso_drive.specs.Board.{IsBoard}
 use Rattle.iso_drive.specs.Made.{IsTabled}
 use Rattle.iso_drive.proofs.Boarded.{board-asked}
-use Rattle.iso_drive.proofs.Waits.{times}
+use Rattle.iso_waits.proofs.Waits.{times}
 use Rattle.iso_drive.proofs.board.go_through.Goals as goal
 
 pub returns-in-TimedOut-clause-board : goal.returns-in-TimedOut-clause-board

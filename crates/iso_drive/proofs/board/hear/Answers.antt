@@ -1,7 +1,7 @@
 use Rattle.std.proofs.Common.{List, sym, subst}
-use Rattle.iso_drive.specs.declared.due.Due.{Due}
-use Rattle.iso_drive.specs.Due.{AreInTime}
-use Rattle.iso_drive.proofs.Waits.{in-time-without}
+use Rattle.iso_waits.specs.declared.due.Due.{Due}
+use Rattle.iso_waits.specs.Waits.{AreInTime}
+use Rattle.iso_waits.proofs.Waits.{in-time-without}
 use Rattle.iso_drive.proofs.board.hear.Goals as goal
 
 pub returns-in-Closed-clause-time : goal.returns-in-Closed-clause-time

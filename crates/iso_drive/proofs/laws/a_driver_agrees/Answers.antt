@@ -6,9 +6,9 @@ use Rattle.iso_acquirer.specs.Acquirer.{debit_of}
 use Rattle.iso_outages.specs.World.{Passes}
 use Rattle.iso_restarts.specs.Diary.{Diary, in_memory, unsent, begins, hears, keeps}
 use Rattle.iso_restarts.specs.World.{World, Goes, happens, run, is_told}
-use Rattle.iso_drive.specs.declared.due.Due.{Due}
+use Rattle.iso_waits.specs.declared.due.Due.{Due}
 use Rattle.iso_drive.specs.Driving.{times_out_all}
-use Rattle.iso_drive.specs.Due.{due_by}
+use Rattle.iso_waits.specs.Waits.{due_by}
 use Rattle.iso_drive.specs.Laws.{time_outs}
 use Rattle.iso_drive.proofs.laws.a_driver_agrees.Goals as goal
 

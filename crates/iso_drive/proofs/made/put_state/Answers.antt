@@ -1,11 +1,12 @@
-use Rattle.std.proofs.Common.{arith, sym, ap, ◌∙◌, ◌≡◌, ◌-◌, subst, slice_set, List}
-use Rattle.std.specs.Prelude.{option_map, Some, None, slice_get}
-use Rattle.iso_acquirer.specs.declared.slot.Slot.{Slot}
+use Rattle.std.proofs.Common.{arith, sym, ap, ◌∙◌, ◌≡◌, ◌-◌, subst, slice_set}
+use Rattle.std.specs.Prelude.{option_map}
+use Rattle.iso_order.proofs.Lists.{some_is}
+use Rattle.iso_order.proofs.Plain.{none-some}
 use Rattle.iso_drive.specs.declared.made.Made.{Made}
 use Rattle.iso_drive.specs.declared.made.Role.TheVariants.{Payment}
 use Rattle.iso_drive.specs.Made.{made_of, IsTabled}
-use Rattle.iso_acquirer.specs.Acquirer.{slot_at, slots_at_stage}
-use Rattle.iso_drive.proofs.Plain.{some_is, none-some, get-below}
+use Rattle.iso_acquirer.specs.Acquirer.{slots_at_stage}
+use Rattle.iso_drive.proofs.Plain.{get-below}
 use Rattle.iso_drive.proofs.Row.{below}
 use Rattle.iso_drive.proofs.Tabled.{made-at, tabled-stage}
 use Rattle.iso_drive.proofs.made.put_state.Goals as goal

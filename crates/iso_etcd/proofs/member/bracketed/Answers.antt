@@ -1,7 +1,6 @@
-use Rattle.std.proofs.Common.{◌≡◌, ℕ, List, refl, sym, subst}
+use Rattle.std.proofs.Common.{◌≡◌, ℕ, List, refl, subst}
 use Rattle.std.specs.Net.Grammar.{IsIpv6Text}
-use Rattle.std.specs.declared.net.ipv6_addr.Ipv6Addr.{Ipv6Addr}
-use Rattle.iso_etcd.specs.Members.{IsPortBehind, before, behind}
+use Rattle.iso_etcd.specs.Members.{IsPortBehind, behind}
 use Rattle.iso_etcd.proofs.member.bracketed.Goals as goal
 
 pub returns-then-not-is_address-clause-none : goal.returns-then-not-is_address-clause-none

@@ -1,4 +1,4 @@
-use Rattle.std.proofs.Common.{◌≡◌, ℕ, List, refl, subst, arith, inl, inr}
+use Rattle.std.proofs.Common.{◌≡◌, ℕ, List, subst, arith, inl, inr}
 use Rattle.iso_etcd.specs.Members.{IsBracketed, behind}
 use Rattle.iso_etcd.proofs.member.host_and_port.Goals as goal
 

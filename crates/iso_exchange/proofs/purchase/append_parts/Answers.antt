@@ -2,8 +2,8 @@ use Rattle.std.proofs.Common.{◌≡◌, ◌++◌, ◌∷◌, [], arith, refl}
 use Rattle.std.specs.List.{flat_map}
 use Rattle.iso_wire.specs.Spelling.{Parts, plain_of}
 use Rattle.iso_order.specs.Requests.{account_number, acquirer_code}
+use Rattle.iso_order.proofs.Decimals.{acquirer-own, few-digits}
 use Rattle.iso_exchange.specs.Purchase.{purchase_elements, four_elements, AddsPart, AddsParts}
-use Rattle.iso_exchange.proofs.Decimals.{acquirer-own, few-digits}
 use Rattle.iso_exchange.proofs.Purchases.{parts-more, parts-written, parts-spelled, on-ok}
 use Rattle.iso_exchange.proofs.purchase.append_parts.Goals as goal
 

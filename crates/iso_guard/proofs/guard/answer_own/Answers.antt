@@ -3,7 +3,8 @@ use Rattle.iso_wire.specs.declared.header.Header.{Header}
 use Rattle.iso_wire.specs.Framing.{frame_of, header_size, largest}
 use Rattle.iso_host.specs.Asking.{message_in}
 use Rattle.iso_host.specs.Output.{response_to}
-use Rattle.iso_guard.proofs.Allowed.{body_alone, entered_or_kept}
+use Rattle.iso_peers.proofs.Pieces.{body_alone}
+use Rattle.iso_guard.proofs.Allowed.{entered_or_kept}
 use Rattle.iso_guard.proofs.Answers.{framed, none_behind, on_err, some_behind}
 use Rattle.iso_guard.proofs.guard.answer_own.Goals as goal
 

@@ -1,4 +1,4 @@
-use Rattle.std.proofs.Common.{◌≡◌, ◌∙◌, List, ℕ, Bool, true, false, nat_lt, length, [], sym, ap, subst}
+use Rattle.std.proofs.Common.{◌≡◌, Bool, true, false, [], sym, subst}
 use Rattle.std.specs.Prelude.{IfSome}
 use Rattle.iso_input.specs.Window.{Ahead}
 use Rattle.iso_wire.specs.Framing.{NeedsMore, NoFrame}

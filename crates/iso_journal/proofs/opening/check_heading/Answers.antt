@@ -1,4 +1,4 @@
-use Rattle.std.proofs.Common.{◌≡◌, ◌∙◌, ◌≤◌, List, ℕ, length, take, sym, refl, ap, arith, subst}
+use Rattle.std.proofs.Common.{◌∙◌, List, ℕ, sym, arith, subst}
 use Rattle.sqlite_disk.specs.Disk.{Holds}
 use Rattle.iso_record.specs.Heading.{heading_bytes, heading_fault}
 use Rattle.iso_journal.proofs.Replayed.{first_other}

@@ -1,9 +1,6 @@
-use Rattle.std.proofs.Common.{◌≡◌, ◌∙◌, ◌≤◌, ◌<◌, ◌*◌, [], ℕ, List, drop, length, sym, refl, ap, subst, arith}
-use Rattle.std.specs.Prelude.{IsTrue}
-use Rattle.sqlite_disk.specs.Disk.{Only}
+use Rattle.std.proofs.Common.{◌≡◌, ◌∙◌, ℕ, List, ap, subst}
 use Rattle.iso_record.specs.Heading.{heading_bytes}
 use Rattle.iso_log.specs.Slots.{records_of}
-use Rattle.iso_log.specs.Log.{IsLog}
 use Rattle.iso_journal.specs.Orders.{journal_orders}
 use Rattle.iso_journal.specs.Written.{IsReplayed}
 use Rattle.iso_journal.specs.Why.{IsReplayFault}

@@ -1,5 +1,4 @@
-use Rattle.std.proofs.Common.{◌≡◌, ◌∙◌, ◌++◌, [], ℕ, List, sym, refl, ap}
-use Rattle.iso_log.specs.Slots.{records_of}
+use Rattle.std.proofs.Common.{◌∙◌, sym, ap}
 use Rattle.iso_journal.specs.Orders.{journal_orders}
 use Rattle.iso_journal.proofs.Replayed.{none_waits, all_held}
 use Rattle.iso_journal.proofs.opening.open.Goals as goal

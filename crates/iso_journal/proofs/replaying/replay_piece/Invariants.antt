@@ -1,6 +1,6 @@
 use Rattle.std.proofs.Common.{◌≡◌, ◌++◌}
+use Rattle.iso_log.specs.Slots.{slots_from}
 use Rattle.iso_journal.specs.Orders.{orders_of}
-use Rattle.iso_journal.specs.Pieces.{slots_from}
 use Rattle.iso_journal.specs.Written.{AreWritten}
 use Rattle.iso_journal.proofs.replaying.replay_piece.Given as goal
 

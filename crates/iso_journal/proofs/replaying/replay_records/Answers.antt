@@ -1,10 +1,9 @@
-use Rattle.std.proofs.Common.{◌≡◌, ◌∙◌, ◌≤◌, ◌<◌, ◌*◌, ◌+◌, ◌++◌, [], ℕ, List, length, sym, refl, ap, subst, arith}
-use Rattle.iso_log.specs.Slots.{slot, records_of}
+use Rattle.std.proofs.Common.{◌≡◌, ◌∙◌, ◌+◌, ◌++◌, [], ℕ, List, ap, subst, arith}
+use Rattle.iso_log.specs.Slots.{slot, slots_from}
+use Rattle.iso_log.proofs.Behind.{behind, all_behind}
 use Rattle.iso_journal.specs.Orders.{orders_of}
-use Rattle.iso_journal.specs.Pieces.{slots_from}
 use Rattle.iso_journal.specs.Written.{AreWritten, IsWritten}
 use Rattle.iso_journal.proofs.Pieces.{some_entered, some_written, some_damaged}
-use Rattle.iso_journal.proofs.Replayed.{behind, all_behind}
 use Rattle.iso_journal.proofs.replaying.replay_records.Goals as goal
 
 pub returns-then-replayed-some-clause-fault : goal.returns-then-replayed-some-clause-fault

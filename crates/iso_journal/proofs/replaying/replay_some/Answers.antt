@@ -1,4 +1,4 @@
-use Rattle.std.proofs.Common.{◌≡◌, ◌∙◌, ◌≤◌, ◌<◌, ◌*◌, ◌+◌, ◌/◌, ℕ, List, length, arith, sym}
+use Rattle.std.proofs.Common.{◌≡◌, ◌∙◌, ◌*◌, length, arith}
 use Rattle.iso_log.proofs.Pieces.{some_long}
 use Rattle.iso_journal.proofs.Pieces.{file_written, file_entered, file_not}
 use Rattle.iso_journal.proofs.replaying.replay_some.Goals as goal

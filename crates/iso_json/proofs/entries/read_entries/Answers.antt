@@ -1,4 +1,4 @@
-use Rattle.std.proofs.Common.{ℕ, Bool, ap, arith, drop, rules, sym, ◌∙◌}
+use Rattle.std.proofs.Common.{ℕ, Bool, ap, arith, rules, sym, ◌∙◌}
 use Rattle.json.specs.Value.{members_view}
 use Rattle.iso_parts.specs.Bitmap.{contains}
 use Rattle.iso_json.specs.Heard.{heard, with_entries}

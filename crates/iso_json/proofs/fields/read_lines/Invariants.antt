@@ -1,4 +1,4 @@
-use Rattle.std.proofs.Common.{◌≤◌, ℕ, length}
+use Rattle.std.proofs.Common.{◌≤◌, length}
 use Rattle.iso_json.proofs.fields.read_lines.Given as goal
 
 -- what is left is no more than the text

@@ -1,5 +1,4 @@
-use Rattle.std.proofs.Common.{arith, ap, rules, sym, ◌++◌, ◌∙◌, List, ℕ}
-use Rattle.iso_json.specs.declared.complaint.Complaint.{Complaint}
+use Rattle.std.proofs.Common.{arith, sym, ◌∙◌}
 use Rattle.iso_json.proofs.NameLemmas.{names_all, names_next}
 use Rattle.iso_json.proofs.reading.check_names.Goals as goal
 

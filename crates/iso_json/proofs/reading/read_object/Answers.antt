@@ -1,15 +1,13 @@
-use Rattle.std.proofs.Common.{ℕ, List, Option, ◌++◌, ap, sym, ◌∙◌}
+use Rattle.std.proofs.Common.{Option, ◌++◌, ap, ◌∙◌}
 use Rattle.std.specs.Prelude.{option_map}
 use Rattle.json.specs.Find.{get}
-use Rattle.json.specs.Json.{Json}
 use Rattle.json.specs.Value.{members_view, value_view}
 use Rattle.iso_wire.specs.Contents.{Contents}
-use Rattle.iso_json.specs.declared.complaint.Complaint.{Complaint}
 use Rattle.iso_json.specs.declared.complaint.Place.TheVariants as places
 use Rattle.iso_json.specs.declared.complaint.Trouble.{Trouble}
 use Rattle.iso_json.specs.Said.{elements_key, mti_key}
 use Rattle.iso_json.specs.Heard.{complained, type_number}
-use Rattle.iso_json.proofs.Readings.{ReadsSteps, object_complaints, object_message}
+use Rattle.iso_json.proofs.Readings.{object_complaints, object_message}
 use Rattle.iso_json.proofs.reading.read_object.Goals as goal
 
 pub returns-clause-message : goal.returns-clause-message

@@ -1,4 +1,4 @@
-use Rattle.std.proofs.Common.{arith, rules}
+use Rattle.std.proofs.Common.{arith}
 use Rattle.iso_json.proofs.Escapes.{escaped_hex}
 use Rattle.iso_json.proofs.writing.push_text.Goals as goal
 

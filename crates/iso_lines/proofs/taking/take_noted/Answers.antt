@@ -6,7 +6,8 @@ use Rattle.iso_issuer.specs.Books.{Books}
 use Rattle.iso_host.specs.Entering.{StaysWithout}
 use Rattle.iso_peers.specs.Turn.{TakesOf, RefusesTurn, at_books, books_change}
 use Rattle.iso_lines.proofs.Heard.{more_heard, so_heard, take_heard}
-use Rattle.iso_lines.proofs.Pieces.{at_first, next_taken, no_frame_after, stopped_takes, stopped_refuses, all_taken}
+use Rattle.iso_peers.proofs.Pieces.{at_first, next_taken, no_frame_after, all_taken}
+use Rattle.iso_lines.proofs.Pieces.{stopped_takes, stopped_refuses}
 use Rattle.iso_lines.proofs.taking.take_noted.Goals as goal
 
 pub pieces-init : goal.pieces-init

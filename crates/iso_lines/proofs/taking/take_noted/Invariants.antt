@@ -1,6 +1,6 @@
 use Rattle.std.proofs.Common.{◌≡◌, ◌≤◌, ◌-◌, length, take}
 use Rattle.iso_peers.specs.Host.{IsInStep}
-use Rattle.iso_lines.proofs.Pieces.{SoFar}
+use Rattle.iso_peers.proofs.Pieces.{SoFar}
 use Rattle.iso_lines.proofs.taking.take_noted.Given as goal
 
 abbrev pub invariant-pieces : goal.invariant-pieces

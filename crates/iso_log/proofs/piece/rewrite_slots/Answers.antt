@@ -1,6 +1,5 @@
-use Rattle.std.proofs.Common.{◌≡◌, ◌∙◌, ◌<◌, ◌≤◌, ◌*◌, ◌+◌, ◌^◌, ℕ, List, length, refl, arith, sym, subst, inr}
-use Rattle.std.specs.Prelude.{IsTrue}
-use Rattle.sqlite_disk.specs.Disk.{Holds, Torn, Mixed}
+use Rattle.std.proofs.Common.{◌≡◌, ◌≤◌, ◌*◌, ℕ, List, length, arith, subst, inr}
+use Rattle.sqlite_disk.specs.Disk.{Torn, Mixed}
 use Rattle.iso_log.proofs.Pieces.{some_long, same_again}
 use Rattle.iso_log.proofs.piece.rewrite_slots.Goals as goal
 

@@ -1,4 +1,4 @@
-use Rattle.std.proofs.Common.{◌≡◌, ◌∙◌, ◌<◌, ◌≤◌, ◌*◌, ◌+◌, ◌/◌, ℕ, List, length, refl, arith, sym}
+use Rattle.std.proofs.Common.{◌∙◌, arith}
 use Rattle.iso_log.proofs.Pieces.{slot_whole, whole_next}
 use Rattle.iso_log.proofs.piece.whole_in.Goals as goal
 

@@ -1,4 +1,4 @@
-use Rattle.std.proofs.Common.{◌≡◌, ◌∙◌, ◌<◌, ◌≤◌, ◌*◌, ◌+◌, ◌/◌, ℕ, List, length, refl, arith, sym}
+use Rattle.std.proofs.Common.{◌≡◌, ◌∙◌, ◌≤◌, ◌*◌, length, arith}
 use Rattle.iso_log.proofs.Pieces.{some_long, piece_first}
 use Rattle.iso_log.proofs.piece.whole_until.Goals as goal
 

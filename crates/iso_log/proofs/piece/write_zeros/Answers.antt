@@ -1,5 +1,4 @@
-use Rattle.std.proofs.Common.{◌≡◌, ◌<◌, ◌≤◌, ◌*◌, ◌+◌, ◌^◌, ℕ, List, length, take, refl, arith, sym, subst}
-use Rattle.std.specs.Prelude.{replicate}
+use Rattle.std.proofs.Common.{◌≤◌, ◌*◌, ℕ, List, arith, subst}
 use Rattle.sqlite_disk.specs.Disk.{Holds, Mixed}
 use Rattle.iso_log.proofs.Pieces.{some_zeros, some_long}
 use Rattle.iso_log.proofs.piece.write_zeros.Goals as goal

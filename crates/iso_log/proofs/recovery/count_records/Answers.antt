@@ -1,4 +1,4 @@
-use Rattle.std.proofs.Common.{◌≡◌, ◌∙◌, ◌<◌, ◌≤◌, ◌+◌, ℕ, List, refl, arith, sym, subst}
+use Rattle.std.proofs.Common.{◌∙◌, ◌+◌, ℕ, List, arith, subst}
 use Rattle.iso_log.specs.Log.{IsFirst}
 use Rattle.iso_log.proofs.Pieces.{whole_more, first_found}
 use Rattle.iso_log.proofs.recovery.count_records.Goals as goal

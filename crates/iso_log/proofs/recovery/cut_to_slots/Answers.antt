@@ -1,4 +1,4 @@
-use Rattle.std.proofs.Common.{◌≡◌, ◌∙◌, ap}
+use Rattle.std.proofs.Common.{◌∙◌, ap}
 use Rattle.iso_log.specs.Slots.{records_of}
 use Rattle.iso_log.proofs.Pieces.{cut_left}
 use Rattle.iso_log.proofs.recovery.cut_to_slots.Goals as goal

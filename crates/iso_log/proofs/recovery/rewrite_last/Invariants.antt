@@ -1,4 +1,4 @@
-use Rattle.std.proofs.Common.{◌≡◌, ◌<◌, ◌≤◌, ◌-◌, ℕ, List, true}
+use Rattle.std.proofs.Common.{◌≡◌, ◌≤◌, ◌-◌}
 use Rattle.std.specs.Prelude.{IsTrue}
 use Rattle.sqlite_disk.specs.Disk.{Only}
 use Rattle.iso_log.proofs.recovery.rewrite_last.Given as goal

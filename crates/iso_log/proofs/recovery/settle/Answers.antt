@@ -1,11 +1,11 @@
-use Rattle.std.proofs.Common.{◌≡◌, ◌∙◌, ◌<◌, ◌≤◌, ◌*◌, sym, refl, arith, ap, subst, inl, List, ℕ, length}
+use Rattle.std.proofs.Common.{◌≡◌, ◌∙◌, ◌*◌, sym, refl, arith, ap, subst, inl, List, ℕ, length}
 use Rattle.std.specs.Prelude.{slice_index, IsTrue}
 use Rattle.iso_log.specs.Slots.{records_of}
-use Rattle.iso_log.specs.Log.{IsAtRest, IsLeft, IsFirst, IsCleared}
+use Rattle.iso_log.specs.Log.{IsAtRest, IsFirst, IsCleared}
 use Rattle.iso_log.proofs.Recovered.{settled_rest, settled_left, same_records_of, cleared_file, cleared_left}
 use Rattle.iso_log.proofs.recovery.settle.Goals as goal
 use Rattle.iso_log.proofs.recovery.settle.Given.{Over}
-use Rattle.iso_log.proofs.recovery.settle.Goals.{In_err-clear_from, In_ok-clear_from, In_default, In-Ok}
+use Rattle.iso_log.proofs.recovery.settle.Goals.{In-Ok}
 
 pub returns-in_err-clear_from-clause-any_moment : goal.returns-in_err-clear_from-clause-any_moment
 returns-in_err-clear_from-clause-any_moment g c = λ clean rest kept here.

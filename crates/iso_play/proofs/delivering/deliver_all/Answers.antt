@@ -1,4 +1,4 @@
-use Rattle.std.proofs.Common.{◌≡◌, ◌∙◌, ◌++◌, ◌∷◌, [], ℕ, List, ap, sym, subst, map, take}
+use Rattle.std.proofs.Common.{◌∙◌, ◌++◌, ◌∷◌, [], ℕ, List, ap, sym, subst, map, take}
 use Rattle.iso_host.specs.Asking.{message_in}
 use Rattle.iso_host.specs.Entering.{StaysWithout, books_after_bodies}
 use Rattle.iso_host.specs.Handling.{entered_by}

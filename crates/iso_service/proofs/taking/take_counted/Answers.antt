@@ -5,7 +5,7 @@ use Rattle.iso_wire.specs.Framing.{NoFrame}
 use Rattle.iso_issuer.specs.Books.{Books}
 use Rattle.iso_host.specs.Entering.{StaysWithout}
 use Rattle.iso_peers.specs.Turn.{TakesOf, at_books}
-use Rattle.iso_service.proofs.Pieces.{at_first, next_taken, no_frame_after, all_taken}
+use Rattle.iso_peers.proofs.Pieces.{at_first, next_taken, no_frame_after, all_taken}
 use Rattle.iso_service.proofs.taking.take_counted.Goals as goal
 
 pub pieces-init : goal.pieces-init

@@ -1,6 +1,6 @@
 use Rattle.std.proofs.Common.{◌≡◌, ◌≤◌, ◌-◌, length, take}
 use Rattle.iso_peers.specs.Host.{IsInStep}
-use Rattle.iso_service.proofs.Pieces.{SoFar}
+use Rattle.iso_peers.proofs.Pieces.{SoFar}
 use Rattle.iso_service.proofs.taking.take_counted.Given as goal
 
 abbrev pub invariant-pieces : goal.invariant-pieces

@@ -1,9 +1,9 @@
 use Rattle.std.proofs.Common.{◌≡◌, ◌∙◌, ap, arith, refl, sym, take, [], ◌++◌, ◌+◌, length}
 use Rattle.std.proofs.lemmas.List.{take_all}
 use Rattle.iso_log.specs.Slots.{is_whole}
+use Rattle.iso_wire.proofs.Decimals.{length-decimal}
 use Rattle.iso_shared.specs.Heading.{magic, heading_bytes}
 use Rattle.iso_shared.proofs.Headings.{heading_put, length-name}
-use Rattle.iso_shared.proofs.Digits.{length-decimal}
 use Rattle.iso_shared.proofs.heading.heading_bytes.Goals as goal
 use Rattle.iso_shared.proofs.heading.heading_bytes.Goals.{After-put-5}
 

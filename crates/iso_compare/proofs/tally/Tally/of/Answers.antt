@@ -1,4 +1,3 @@
-use Rattle.std.proofs.Common.{rules}
 use Rattle.iso_compare.proofs.Pairs.{all_same, counts_of}
 use Rattle.iso_compare.proofs.tally.Tally.of.Goals as goal
 

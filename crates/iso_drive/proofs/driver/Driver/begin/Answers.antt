@@ -1,15 +1,15 @@
-use Rattle.std.proofs.Common.{◌≡◌, ℕ, List, [], ◌∷◌, ◌++◌, refl, arith, ap, sym, ◌∙◌, length, ◌<◌, ◌≤◌, ◌+◌}
+use Rattle.std.proofs.Common.{◌≡◌, ℕ, List, [], ◌∷◌, ◌++◌, refl, arith, ap, ◌∙◌, length, ◌+◌}
 use Rattle.iso_order.specs.declared.key.TxKey.{TxKey}
-use Rattle.iso_acquirer.specs.Acquirer.{debit_of, transaction_of}
+use Rattle.iso_acquirer.specs.Acquirer.{debit_of}
 use Rattle.iso_restarts.specs.Diary.{in_memory}
 use Rattle.iso_restarts.specs.Durable.{diary_of}
-use Rattle.iso_drive.specs.declared.due.Due.{Due}
+use Rattle.iso_restarts.proofs.Written.{left-begins}
+use Rattle.iso_waits.specs.declared.due.Due.{Due}
 use Rattle.iso_drive.specs.declared.made.Made.{Made}
 use Rattle.std.specs.Prelude.{Some}
 use Rattle.iso_acquirer.specs.declared.state.State.TheVariants.{Waiting}
 use Rattle.iso_drive.specs.declared.made.Role.TheVariants.{Payment}
 use Rattle.iso_drive.proofs.Driven.{driving-begun}
-use Rattle.iso_drive.proofs.Notes.{left-begins}
 use Rattle.iso_drive.proofs.Tabled.{made-begun}
 use Rattle.iso_drive.proofs.driver.Driver.begin.Goals as goal
 

@@ -1,11 +1,11 @@
-use Rattle.std.proofs.Common.{◌≡◌, List, refl, ap, sym, ◌∙◌, subst}
+use Rattle.std.proofs.Common.{List, refl, sym, subst}
 use Rattle.iso_restarts.specs.declared.note.Note.TheVariants.{Told}
 use Rattle.iso_restarts.specs.Diary.{in_memory}
 use Rattle.iso_restarts.specs.Durable.{diary_of}
+use Rattle.iso_restarts.proofs.Written.{left-more}
 use Rattle.iso_drive.specs.declared.made.Made.{Made}
 use Rattle.iso_drive.specs.Made.{IsTabled}
 use Rattle.iso_drive.proofs.Driven.{driving-closed}
-use Rattle.iso_drive.proofs.Notes.{left-more}
 use Rattle.iso_drive.proofs.driver.Driver.heard.Goals as goal
 
 pub returns-in_ok-told-in-Closed-clause-driving : goal.returns-in_ok-told-in-Closed-clause-driving

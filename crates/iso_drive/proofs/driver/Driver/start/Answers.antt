@@ -1,9 +1,10 @@
 use Rattle.std.proofs.Common.{◌≡◌, ◌≤◌, [], refl, arith, ap, sym, ◌∙◌, subst, append-nil}
+use Rattle.iso_order.proofs.Lists.{all-weaker}
 use Rattle.iso_restarts.specs.Diary.{Diary, in_memory, slots_after}
-use Rattle.iso_drive.specs.declared.due.Due.{Due}
+use Rattle.iso_waits.specs.declared.due.Due.{Due}
 use Rattle.iso_drive.specs.Board.{IsBoard}
-use Rattle.iso_drive.specs.Due.{moment_after}
-use Rattle.iso_drive.proofs.Waits.{in-time-later, all-weaker}
+use Rattle.iso_waits.specs.Waits.{moment_after}
+use Rattle.iso_waits.proofs.Waits.{in-time-later}
 use Rattle.iso_drive.proofs.driver.Driver.start.Goals as goal
 
 pub returns-in-Ok-start-clause-driving : goal.returns-in-Ok-start-clause-driving

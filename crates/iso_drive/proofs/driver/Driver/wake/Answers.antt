@@ -1,12 +1,12 @@
-use Rattle.std.proofs.Common.{◌≡◌, ◌≤◌, ◌<◌, ◌+◌, ℕ, List, refl, arith, ap, sym, ◌∙◌, subst, length}
-use Rattle.std.specs.Prelude.{max, count_by}
+use Rattle.std.proofs.Common.{◌≡◌, ◌≤◌, ◌<◌, ◌+◌, ℕ, refl, arith, ap, sym, ◌∙◌, subst, length}
+use Rattle.std.specs.Prelude.{max}
 use Rattle.std.proofs.lemmas.List.Sums.{count_by-le-length, length-filter}
 use Rattle.std.proofs.lemmas.Result.{err_from_is_err_and}
 use Rattle.iso_restarts.specs.Diary.{MayLeave}
 use Rattle.iso_restarts.specs.Durable.{diary_of}
 use Rattle.iso_drive.specs.declared.driver.Driver.{Driver}
 use Rattle.iso_drive.specs.Driving.{Driving, wakes_first, wakes}
-use Rattle.iso_drive.specs.Due.{is_due, due_by}
+use Rattle.iso_waits.specs.Waits.{is_due, due_by}
 use Rattle.iso_drive.proofs.Driven.{driving-moment}
 use Rattle.iso_drive.proofs.Woken.{wakes-next, wakes-due}
 use Rattle.iso_drive.proofs.driver.Driver.wake.Goals as goal

@@ -1,14 +1,14 @@
-use Rattle.std.proofs.Common.{◌≡◌, List, [], ◌∷◌, ◌++◌, refl, ap, sym, ◌∙◌, subst, take, drop}
+use Rattle.std.proofs.Common.{List, ◌++◌, refl, ap, sym, ◌∙◌, subst, take, drop}
 use Rattle.iso_restarts.specs.Diary.{MayLeave}
 use Rattle.iso_restarts.specs.Durable.{diary_of}
-use Rattle.iso_drive.specs.declared.due.Due.{Due}
+use Rattle.iso_restarts.proofs.Written.{left-times-out}
+use Rattle.iso_waits.specs.declared.due.Due.{Due}
 use Rattle.iso_drive.specs.declared.made.Made.{Made}
 use Rattle.iso_drive.specs.Driving.{times_out_all}
-use Rattle.iso_drive.specs.Due.{again}
+use Rattle.iso_waits.specs.Waits.{again}
 use Rattle.iso_drive.specs.Made.{IsTabled}
 use Rattle.iso_drive.proofs.Driven.{driving-asked}
-use Rattle.iso_drive.proofs.Notes.{left-times-out}
-use Rattle.iso_drive.proofs.Waits.{first-taken}
+use Rattle.iso_waits.proofs.Waits.{first-taken}
 use Rattle.iso_drive.proofs.driver.Driver.wake_first.Goals as goal
 
 pub returns-in_err-make_room-clause-crash : goal.returns-in_err-make_room-clause-crash

@@ -2,7 +2,7 @@ use Rattle.std.proofs.Common.{subst}
 use Rattle.iso_issuer.specs.Books.{Books}
 use Rattle.iso_durable.specs.World.{IsStart}
 use Rattle.iso_guard.proofs.Allowed.{enter_by_orders}
-use Rattle.iso_guard.proofs.InStep.{stays_in_step}
+use Rattle.iso_peers.proofs.InStep.{stays_in_step}
 use Rattle.iso_guard.proofs.peer.GuardedPeer.take_all.Goals as goal
 
 pub returns-clause-step : goal.returns-clause-step

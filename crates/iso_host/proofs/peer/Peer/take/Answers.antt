@@ -1,4 +1,3 @@
-use Rattle.std.proofs.Common.{Err, Ok}
 use Rattle.iso_host.proofs.peer.Peer.take.Goals.{in-Err, in-Ok}
 use Rattle.iso_host.proofs.peer.Peer.take.Goals as goal
 

@@ -1,10 +1,10 @@
-use Rattle.std.proofs.Common.{◌≡◌, ◌++◌, ◌∷◌, [], List, arith, ap, sym, ◌∙◌, subst}
+use Rattle.std.proofs.Common.{◌++◌, ◌∷◌, [], List, arith, ap, sym, ◌∙◌, subst}
 use Rattle.std.proofs.lemmas.List.{with_items_is}
 use Rattle.iso_mix.specs.declared.asked.Side.{Side}
-use Rattle.iso_mix.specs.declared.waits.Due.{Due}
+use Rattle.iso_waits.specs.declared.due.Due.{Due}
 use Rattle.iso_mix.specs.Asked.{sides_followed}
 use Rattle.iso_mix.specs.Begun.{Follows}
-use Rattle.iso_mix.specs.Waits.{moment_after}
+use Rattle.iso_waits.specs.Waits.{moment_after}
 use Rattle.iso_mix.proofs.Began.{kept-followed}
 use Rattle.iso_mix.proofs.Kept.{kept-same}
 use Rattle.iso_mix.proofs.sides.Sides.follow_one.Goals as goal

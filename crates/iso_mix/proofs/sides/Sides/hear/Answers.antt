@@ -2,7 +2,7 @@ use Rattle.std.proofs.Common.{◌≡◌, arith, ap, sym, ◌∙◌}
 use Rattle.iso_mix.specs.Asked.{asked_at, sides_answered}
 use Rattle.iso_mix.specs.Hearing.{hearing_of}
 use Rattle.iso_mix.specs.declared.hearing.Hearing.TheVariants.{First}
-use Rattle.iso_mix.specs.Waits.{moment_after, without}
+use Rattle.iso_waits.specs.Waits.{moment_after, without}
 use Rattle.iso_mix.proofs.Kept.{kept-same, kept-heard}
 use Rattle.iso_mix.proofs.sides.Sides.hear.Goals as goal
 

@@ -1,4 +1,4 @@
-use Rattle.iso_mix.specs.Waits.{moment_after}
+use Rattle.iso_waits.specs.Waits.{moment_after}
 use Rattle.iso_mix.proofs.Kept.{none-open, none-left}
 use Rattle.iso_mix.proofs.sides.Sides.is_closed.Goals as goal
 

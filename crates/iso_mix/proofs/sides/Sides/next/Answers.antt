@@ -1,5 +1,5 @@
-use Rattle.std.proofs.Common.{◌≡◌, List, refl, arith, ap, sym, ◌∙◌}
-use Rattle.iso_mix.specs.Waits.{moment_after, put_off}
+use Rattle.std.proofs.Common.{refl, arith, sym}
+use Rattle.iso_waits.specs.Waits.{moment_after, put_off}
 use Rattle.iso_mix.proofs.Kept.{kept-same, kept-later, kept-again}
 use Rattle.iso_mix.proofs.sides.Sides.next.Goals as goal
 

@@ -1,4 +1,4 @@
-use Rattle.iso_mix.proofs.InTime.{first-before}
+use Rattle.iso_waits.proofs.Waits.{first-before}
 use Rattle.iso_mix.proofs.sides.Sides.next_due.Goals as goal
 
 pub returns-in-Some-clause-none_before : goal.returns-in-Some-clause-none_before

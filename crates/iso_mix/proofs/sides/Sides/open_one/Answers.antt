@@ -1,10 +1,10 @@
 use Rattle.std.proofs.Common.{◌≡◌, ◌++◌, ◌∷◌, [], List, arith, ap, sym, ◌∙◌, length}
 use Rattle.std.specs.Prelude.{Some}
 use Rattle.iso_mix.specs.declared.asked.Side.{Side}
-use Rattle.iso_mix.specs.declared.waits.Due.{Due}
+use Rattle.iso_waits.specs.declared.due.Due.{Due}
 use Rattle.iso_mix.specs.Begun.{opened}
 use Rattle.iso_mix.specs.Orders.{opening_order}
-use Rattle.iso_mix.specs.Waits.{moment_after}
+use Rattle.iso_waits.specs.Waits.{moment_after}
 use Rattle.iso_mix.proofs.Began.{kept-opened}
 use Rattle.iso_mix.proofs.Kept.{kept-same}
 use Rattle.iso_mix.proofs.sides.Sides.open_one.Goals as goal

@@ -1,8 +1,9 @@
 use Rattle.std.proofs.Common.{◌≡◌, ◌≤◌, ◌<◌, ℕ, arith, subst, sym, ap, ◌∙◌, List}
 use Rattle.std.specs.List.{AllByRecursion}
+use Rattle.iso_order.proofs.Lists.{all-weaker}
 use Rattle.iso_plan.specs.declared.late.Held.{Held}
 use Rattle.iso_plan.specs.Late.{Waiting, put, waits_of}
-use Rattle.iso_plan.proofs.Putting.{put-insert, all-insert, all-weaker}
+use Rattle.iso_plan.proofs.Putting.{put-insert, all-insert}
 use Rattle.iso_plan.proofs.late.Late.hold.Goals as goal
 
 pub invariant_of-self-2 : goal.invariant_of-self-2

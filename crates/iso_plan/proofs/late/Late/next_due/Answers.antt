@@ -3,9 +3,10 @@ use Rattle.std.specs.Prelude.{map}
 use Rattle.std.specs.List.{AllByRecursion}
 use Rattle.std.specs.Ordering.{is_gt}
 use Rattle.std.proofs.lemmas.List.Elements.{recursion_from_All}
+use Rattle.iso_order.proofs.Lists.{all-weaker}
 use Rattle.iso_plan.specs.declared.late.Held.{Held}
 use Rattle.iso_plan.specs.Late.{Waiting}
-use Rattle.iso_plan.proofs.Putting.{by_moment, earlier-moment, all-waits, all-weaker}
+use Rattle.iso_plan.proofs.Putting.{by_moment, earlier-moment, all-waits}
 use Rattle.iso_plan.proofs.late.Late.next_due.Goals as goal
 
 pub returns-in-Some-clause-none_before : goal.returns-in-Some-clause-none_before
