@@ -1,5 +1,6 @@
 //! Documents of rules, and what a host does by them.
 
+use iso_fakes::check;
 use iso_host::{HostTable, Link};
 use iso_issuer::{Accounts, Issuer};
 use iso_order::{MOST_AMOUNT, NoMemory, Pan};
@@ -104,13 +105,32 @@ fn whose_turn_it_is(rt: HostRuntime) -> Result<(), Fail> {
     Ok(())
 }
 
+/// The accounts of a host: one, with 50.00 USD.
+const ACCOUNTS: &[u8] =
+    b"{\"accounts\":[{\"currency\":\"840\",\"opening\":5000,\"pan\":\"4111111111111111\"}]}";
+
+/// An issuer of these accounts.
+fn issuer(alloc: Global) -> Option<Issuer> {
+    match Accounts::from_json(alloc, ACCOUNTS) {
+        Ok(accounts) => Some(Issuer::new(accounts, 999_999)),
+        Err(_) => None,
+    }
+}
+
 /// A host of one account, by rules.
-fn scripted(alloc: Global, rules: &str) -> Result<Scripted, Fail> {
-    let text =
-        b"{\"accounts\":[{\"currency\":\"840\",\"opening\":5000,\"pan\":\"4111111111111111\"}]}";
-    let issuer = Issuer::new(Accounts::from_json(alloc, text)?, 999_999);
-    let script = Script::from_text(alloc, rules.as_bytes())?;
-    Ok(Scripted::new(alloc, issuer, script))
+fn scripted(alloc: Global, rules: &str) -> Option<Scripted> {
+    match Script::from_text(alloc, rules.as_bytes()) {
+        Ok(script) => Some(Scripted::new(alloc, issuer(alloc)?, script)),
+        Err(_) => None,
+    }
+}
+
+/// A host of one account, by one rule.
+fn ruled(alloc: Global, rule: &str) -> Option<Scripted> {
+    match format!(in alloc; "{{\"rules\":[{rule}]}}") {
+        Ok(rules) => scripted(alloc, &rules),
+        Err(_) => None,
+    }
 }
 
 /// The 1987 table in ASCII, and lengths of four digits before each message.
@@ -156,31 +176,82 @@ fn treated(
     }
 }
 
-#[test]
-fn what_goes_out(rt: HostRuntime) -> Result<(), Fail> {
-    let alloc = rt.alloc();
-    let link = link(alloc)?;
+/// The body of a purchase of 1000.
+fn purchase(alloc: Global, link: &Link) -> Result<Vec<u8>, Fail> {
     let purchase = message(alloc, "0200", "4111111111111111", 1000)?;
-    let body = pack(alloc, link.table().table(), &purchase)?;
-    let pan = Pan::from_digits(b"4111111111111111").ok_or("no account number")?;
+    Ok(pack(alloc, link.table().table(), &purchase)?)
+}
+
+/// What the account has then.
+fn ledger_of(host: &Scripted) -> Option<i64> {
+    host.issuer().ledger(Pan::from_digits(b"4111111111111111")?)
+}
+
+/// Whether these bytes go out for a body, and the account has so much then.
+fn goes_out(
+    alloc: Global,
+    host: &mut Scripted,
+    link: &Link,
+    body: &[u8],
+    wanted: &[u8],
+    ledger: i64,
+) -> bool {
+    match treated(alloc, host, link, body) {
+        Ok((_, out)) => out.as_slice() == wanted && ledger_of(host) == Some(ledger),
+        Err(_) => false,
+    }
+}
+
+/// Whether it is so under a rule.
+fn is_treated(
+    alloc: Global,
+    link: &Link,
+    body: &[u8],
+    rule: &str,
+    wanted: &[u8],
+    ledger: i64,
+) -> bool {
+    match ruled(alloc, rule) {
+        Some(mut host) => goes_out(alloc, &mut host, link, body, wanted, ledger),
+        None => false,
+    }
+}
+
+/// Each rule treats a purchase as its row says.
+fn all_are_treated(alloc: Global, link: &Link, body: &[u8]) -> Result<(), Fail> {
     for (rule, wanted, ledger) in TREATED {
-        let rules = format!(in alloc; "{{\"rules\":[{rule}]}}")?;
-        let mut host = scripted(alloc, &rules)?;
-        let (_, out) = treated(alloc, &mut host, &link, &body)?;
-        assert!(rt; out.as_slice() == *wanted, "{rule}");
-        assert!(rt; host.issuer().ledger(pan) == Some(*ledger), "{rule}");
+        check(is_treated(alloc, link, body, rule, wanted, *ledger), rule)?;
     }
     Ok(())
 }
 
 #[test]
+fn what_goes_out(rt: HostRuntime) -> Result<(), Fail> {
+    let link = link(rt.alloc())?;
+    let body = purchase(rt.alloc(), &link)?;
+    all_are_treated(rt.alloc(), &link, &body)
+}
+
+/// Whether nothing goes out for what is no message, by no rule.
+fn is_unanswered(alloc: Global, host: &mut Scripted, link: &Link) -> bool {
+    match treated(alloc, host, link, b"no message") {
+        Ok((number, out)) => number == 0 && out.is_empty(),
+        Err(_) => false,
+    }
+}
+
+/// Whether a host that answers each message with garbage sends nothing for what is none.
+fn stays_silent(alloc: Global, link: &Link) -> bool {
+    match ruled(alloc, "{\"do\":\"garbage\"}") {
+        Some(mut host) => is_unanswered(alloc, &mut host, link),
+        None => false,
+    }
+}
+
+#[test]
 fn no_message_is_answered_by_no_rule(rt: HostRuntime) -> Result<(), Fail> {
-    let alloc = rt.alloc();
-    let link = link(alloc)?;
-    let mut host = scripted(alloc, "{\"rules\":[{\"do\":\"garbage\"}]}")?;
-    let (number, out) = treated(alloc, &mut host, &link, b"no message")?;
-    assert!(rt; number == 0 && out.is_empty());
-    Ok(())
+    let link = link(rt.alloc())?;
+    check(stays_silent(rt.alloc(), &link), "no message")
 }
 
 /// What is told of a document; nothing of one that is good.
