@@ -25,6 +25,7 @@ them. What only tests and measures stands apart, in a column of its own: the cra
   adds its own. A record has those of its head.
 - A name has two definitions where two of one crate have it, in files of their own or not. Operators (`◌+◌`) aren't counted.
 - A line is too long beyond 100 columns. Of specs/ these are lines that belong to a definition, so neither `use` nor comments.
+- What proofs cite is counted by lemmas.py, which says how.
 """
 import argparse
 import pathlib
@@ -33,6 +34,7 @@ import sys
 from typing import NamedTuple
 
 from clauses import behind_angles, behind_blanks, behind_bracket, without_literals
+from lemmas import foreign_cites, uncited_lemmas
 
 ROOT = pathlib.Path(__file__).resolve().parent.parent
 CRATES = ROOT / "crates"
@@ -291,6 +293,11 @@ def files_of(folders, kind, pattern):
     return [path for path in paths if path.name != "tests.rt" and is_written(path)]
 
 
+def proof_files(folders):
+    """The files of proofs of some crates."""
+    return (path for folder in folders for path in (folder / "proofs").rglob("*.antt"))
+
+
 def over(paths, most):
     """The files that have more lines than this."""
     sizes = [(path, path.read_text().count("\n")) for path in paths]
@@ -320,6 +327,8 @@ def measures_of(folders):
     lines = [Place(one.path, number + 1, "line") for one in specifications for number in one.own_lines]
     wide = [Place(one.path, number + 1, "line") for one in specifications for number in one.own_lines if len(one.lines[number]) > WIDEST]
     longest = max(functions, key=lambda function: function[1], default=(None, 0, 0))
+    foreign = [Place(*cite) for folder in folders for cite in foreign_cites(folder)]
+    uncited = [uncited_lemmas(folder) for folder in folders]
 
     def is_long(function):
         return function[1] > LONGEST_FUNCTION
@@ -339,6 +348,8 @@ def measures_of(folders):
         Measure("definitions with more than five arguments by place",
                 [one.place for one in definitions if one.all_arguments() > MOST_ARGUMENTS], len(definitions), True),
         Measure("lines of definitions over 100 columns", wide, len(lines), True),
+        Measure("citations of another crate's proofs", foreign, len(list(proof_files(folders))), True),
+        Measure("lemmas that nothing cites", [Place(*one) for dead, _ in uncited for one in dead], sum(count for _, count in uncited), True),
     ]
 
 

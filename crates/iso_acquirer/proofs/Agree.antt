@@ -1,7 +1,7 @@
 -- Both ends agree on each transaction.
 use Rattle.std.proofs.Common.{◌≡◌, ℕ, refl, subst}
 use Rattle.std.specs.Prelude.{Option, Some, None, option_map, option_and_then}
-use Rattle.iso_order.proofs.Lists.{some_is}
+use Rattle.std.proofs.lemmas.Option.{same_Some}
 use Rattle.iso_issuer.specs.StandingLaws.{GrantedStands, DeclinedFalls, NoneIsNone, StandsNoMore, ReversedNeverStands}
 use Rattle.iso_acquirer.specs.declared.slot.Slot.{Slot}
 use Rattle.iso_acquirer.specs.declared.slot.Role.{Role}
@@ -26,7 +26,7 @@ module _ (none_is_none : NoneIsNone) (stands : GrantedStands) (falls : DeclinedF
   by_stage stan s here (Reversed u) role = reversed-never w.acquirer.id w.acquirer.slots w.sent w.given w.issuer.accounts w.issuer.orders sound.agreed never stan s u here role
 
   by_role : (stan : ℕ) (s : Slot) → slot_at w.acquirer.slots stan ≡ Some s → (role : Role) → s.role ≡ role → (state : State) → state_in_role role ≡ Some state → AgreesIn w s.order state
-  by_role stan s here (Transaction stage) role state is = subst (AgreesIn w s.order) (some_is (state_at_stage stage) state is) (by_stage stan s here stage role)
+  by_role stan s here (Transaction stage) role state is = subst (AgreesIn w s.order) (same_Some (state_at_stage stage) state is) (by_stage stan s here stage role)
   by_role stan s here (Reversal k) role state is = cc
 
   pub both-agree : BothAgree w
@@ -34,4 +34,4 @@ module _ (none_is_none : NoneIsNone) (stands : GrantedStands) (falls : DeclinedF
     where
       by_slot : (f : Option Slot) → slot_at w.acquirer.slots stan ≡ f → option_map (λ s. s.order) f ≡ Some o → option_and_then (λ s. state_in_role s.role) f ≡ Some state → AgreesIn w o state
       by_slot None e g h = cc
-      by_slot (Some s) e g h = subst (λ x. AgreesIn w x state) (some_is s.order o g) (by_role stan s e s.role refl state h)
+      by_slot (Some s) e g h = subst (λ x. AgreesIn w x state) (same_Some s.order o g) (by_role stan s e s.role refl state h)

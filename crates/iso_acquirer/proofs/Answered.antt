@@ -2,13 +2,12 @@
 use Rattle.std.proofs.Common.{◌≡◌, ◌≢◌, ℕ, Bool, true, false, refl, arith, ap, sym, ◌∙◌, List, cond}
 use Rattle.std.specs.Prelude.{◌||◌, ◌==◌, Option, Some, None, option_map}
 use Rattle.std.proofs.lemmas.Grind.{common_steps}
+use Rattle.std.proofs.lemmas.Option.{same_Some}
+use Rattle.std.proofs.lemmas.Bool.{eqb-true}
 use Rattle.iso_order.specs.declared.key.TxKey.{TxKey}
 use Rattle.iso_order.specs.Key.{same_key}
 use Rattle.iso_order.specs.Outcome.{Outcome}
 use Rattle.iso_order.specs.Order.{Instruction}
-use Rattle.iso_order.proofs.Lists.{some_is}
-use Rattle.iso_order.proofs.Same.{same_key_is, same_key_self}
-use Rattle.iso_order.proofs.Plain.{same_number}
 use Rattle.iso_issuer.specs.declared.journal.Entry.{Entry}
 use Rattle.iso_issuer.specs.Effect.{is_key}
 use Rattle.iso_issuer.specs.Journal.{entry_at, undone_key, is_reversed}
@@ -21,6 +20,7 @@ use Rattle.iso_acquirer.specs.declared.slot.Stage.{Stage}
 use Rattle.iso_acquirer.specs.declared.slot.Stage.TheVariants.{Waiting, Reversing, Approved, Declined, Reversed}
 use Rattle.iso_acquirer.specs.Acquirer.{slot_at, undo_of, reversal_under, stage_after, stage_after_undo, slots_after_answer, slots_after_answer_in_role, slots_after_answer_of_slot}
 use Rattle.iso_acquirer.specs.Agreed.{answer_at, code_at, IsStageOf, IsReversal, IsRole, IsAgreed}
+use Rattle.iso_acquirer.proofs.Keys.{same_key_is, same_key_self}
 use Rattle.iso_acquirer.proofs.Numbered.{found}
 use Rattle.iso_acquirer.proofs.Clauses.{own_order, all_wholly, transaction_at}
 use Rattle.iso_acquirer.proofs.Changed.{agreed-changed}
@@ -36,7 +36,7 @@ held-after entries k a (Waiting n) kept h = go (a.code == 0) refl ((a.code == 94
     not_zero c e = λ z. grind (arith, common_steps, e, z)
 
     go : (b : Bool) → (a.code == 0) ≡ b → (t : Bool) → IsStageOf entries k (cond b Approved (cond t (Waiting n) (Declined a.code)))
-    go true e t = code ∙ ap Some (same_number a.code 0 e)
+    go true e t = code ∙ ap Some (eqb-true a.code 0 e)
     go false e true = tt
     go false e false = (code, not_zero a.code e)
 held-after entries k a (Reversing u) kept h = h
@@ -96,7 +96,7 @@ module _ (wholly : WhollyIsReversed) (id : ℕ) (slots : List Slot) (sent : List
       let entry = entry_of_answer entries key a kept in
       let at : entry_at entries s.order.key ≡ Some entry.0 = ap (entry_at entries) is ∙ entry.1 in
       let same : s.order ≡ entry.0.order = own_order id slots sent given entries w key.stan s entry.0 here (ap (λ (q : TxKey). q.stan) is) at in
-      let original : h.original ≡ t = some_is h.original t (sym h.found ∙ there) in
+      let original : h.original ≡ t = same_Some h.original t (sym h.found ∙ there) in
       let key_is : h.original.order.key ≡ t.order.key = ap (λ (x : Slot). x.order.key) original in
       let place : t.order.key.stan ≡ n = (found slots 1 n t w.numbered there).0 in
       let names : is_key (undone_key entry.0.order.act) t.order.key ≡ true =
@@ -109,7 +109,7 @@ module _ (wholly : WhollyIsReversed) (id : ℕ) (slots : List Slot) (sent : List
       agreed-changed id slots sent given entries (stage_after a.code) key.stan w
       (λ t from u there held undo. after-undo a.code t.order from ∙ undo)
       (λ t from there held h.
-      let same : s ≡ t = some_is s t (sym here ∙ there) in
+      let same : s ≡ t = same_Some s t (sym here ∙ there) in
       held-after entries t.order.key a from (ap (answer_at entries) (ap (λ (x : Slot). x.order.key) (sym same) ∙ is) ∙ kept) h)
       (λ t from u there held undo. (transaction_at id slots sent given entries w key.stan t from there held).undone u (sym (after-undo a.code t.order from) ∙ undo))
   by_role s (Reversal n) here is role h =

@@ -4,11 +4,11 @@ use Rattle.std.specs.Prelude.{◌==◌, Option, Some, None, option_map}
 use Rattle.std.specs.List.{AllByRecursion}
 use Rattle.std.specs.Option.{option_or}
 use Rattle.std.proofs.lemmas.List.Folds.{find-append}
+use Rattle.std.proofs.lemmas.Option.{same_Some, none-some}
+use Rattle.std.proofs.lemmas.Bool.{eqb-true, eq-eqb}
 use Rattle.iso_order.specs.declared.act.Act.TheVariants.{Debit}
 use Rattle.iso_order.specs.declared.act.Money.{Money}
 use Rattle.iso_order.specs.Order.{Instruction}
-use Rattle.iso_order.proofs.Lists.{all-weaker, all-push, some_is, find-more}
-use Rattle.iso_order.proofs.Plain.{same_number, number_self, none-some}
 use Rattle.iso_issuer.specs.declared.journal.Entry.{Entry}
 use Rattle.iso_acquirer.specs.declared.event.Given.{Given}
 use Rattle.iso_acquirer.specs.declared.slot.Slot.{Slot}
@@ -18,6 +18,7 @@ use Rattle.iso_acquirer.specs.declared.slot.Stage.TheVariants.{Waiting, Reversin
 use Rattle.iso_acquirer.specs.Acquirer.{slot_at, order_at, undo_of, reversal_under, on_stage, slot_at_stage, slots_at_stage, transaction_of, reversal_for, slots_with, slots_with_reversal}
 use Rattle.iso_acquirer.specs.Room.{AreNumbered}
 use Rattle.iso_acquirer.specs.Agreed.{answer_at, IsRole, IsSlot, IsKnown, IsAgreed}
+use Rattle.iso_acquirer.proofs.Lists.{all-weaker, all-push, find-more}
 use Rattle.iso_acquirer.proofs.Numbered.{above, found, numbered-changed, numbered-push, length-changed}
 use Rattle.iso_acquirer.proofs.Clauses.{slot_of_order, same_stage}
 use Rattle.iso_acquirer.proofs.Changed.{KeepsUndo, changed-found, changed-back, order-changed, known-changed, sent-changed, reversal-changed}
@@ -50,7 +51,7 @@ order-more slots s n o h =
 slot-new : (slots : List Slot) (s : Slot) → AreNumbered 1 slots → s.order.key.stan ≡ length slots + 1 → slot_at (slots ++ s ∷ []) s.order.key.stan ≡ Some s
 slot-new slots s numbered next =
     slot-last slots s s.order.key.stan (above slots 1 s.order.key.stan numbered (omega (arith, next)))
-    ∙ ap (λ b. cond b (Some s) None) (number_self s.order.key.stan s.order.key.stan refl)
+    ∙ ap (λ b. cond b (Some s) None) (eq-eqb s.order.key.stan s.order.key.stan refl)
 
 pub order-new : (slots : List Slot) (s : Slot) → AreNumbered 1 slots → s.order.key.stan ≡ length slots + 1 → order_at (slots ++ s ∷ []) s.order.key.stan ≡ Some s.order
 order-new slots s numbered next = ap (option_map (λ (x : Slot). x.order)) (slot-new slots s numbered next)
@@ -88,11 +89,11 @@ agreed-made id slots sent given entries s numbered old_hold known sent_known giv
 }
   where
     by_old : (n : ℕ) (t : Slot) (f : Option Slot) → slot_at slots n ≡ f → slot_at (slots ++ s ∷ []) n ≡ Some t → IsSlot id entries (slots ++ s ∷ []) t
-    by_old n t (Some x) e there = subst (IsSlot id entries (slots ++ s ∷ [])) (some_is x t (sym (slot-more slots s n x e) ∙ there)) (old_hold n x e)
+    by_old n t (Some x) e there = subst (IsSlot id entries (slots ++ s ∷ [])) (same_Some x t (sym (slot-more slots s n x e) ∙ there)) (old_hold n x e)
     by_old n t None e there = by_test (s.order.key.stan == n) (sym (slot-last slots s n e) ∙ there)
       where
         by_test : (b : Bool) → cond b (Some s) None ≡ Some t → IsSlot id entries (slots ++ s ∷ []) t
-        by_test true h = subst (IsSlot id entries (slots ++ s ∷ [])) (some_is s t h) holds
+        by_test true h = subst (IsSlot id entries (slots ++ s ∷ [])) (same_Some s t h) holds
         by_test false h = cc
 
 -- a transaction begins
@@ -117,7 +118,7 @@ module _ (id : ℕ) (slots : List Slot) (sent : List Instruction) (given : List 
 
   keeps : KeepsUndo slots (λ _. Reversing u.key.stan) stan
   keeps x stage v there is undo =
-      let same : Waiting n ≡ stage = same_stage (Waiting n) stage (sym role ∙ ap (λ (y : Slot). y.role) (some_is s x (sym here ∙ there)) ∙ is) in
+      let same : Waiting n ≡ stage = same_stage (Waiting n) stage (sym role ∙ ap (λ (y : Slot). y.role) (same_Some s x (sym here ∙ there)) ∙ is) in
       absurd (none-some v (ap (undo_of x.order) same ∙ undo))
 
   length_marked : length marked ≡ length slots
@@ -139,7 +140,7 @@ module _ (id : ℕ) (slots : List Slot) (sent : List Instruction) (given : List 
     debit = h.debit;
     held = tt;
     undone = λ v made. subst (λ (z : Instruction). order_at (slots_with_reversal slots stan u) z.key.stan ≡ Some z)
-        (some_is u v (ap Some (is ∙ ap (λ (y : Slot). reversal_under u.key.stan y.order) same) ∙ made)) order_reversing;
+        (same_Some u v (ap Some (is ∙ ap (λ (y : Slot). reversal_under u.key.stan y.order) same) ∙ made)) order_reversing;
   }
   role_marked x same (Reversal k) h = role-more entries marked (reversal_for stan u) x.order (Reversal k) (reversal-changed (λ _. Reversing u.key.stan) stan slots k x.order w.numbered keeps h)
 
@@ -162,8 +163,8 @@ module _ (id : ℕ) (slots : List Slot) (sent : List Instruction) (given : List 
       by_test : (x : Slot) → slot_at slots k ≡ Some x → (b : Bool) → (x.order.key.stan == stan) ≡ b → IsSlot id entries (slots_with_reversal slots stan u) (cond b (slot_at_stage (λ _. Reversing u.key.stan) x) x)
       by_test x at true e =
           let old = w.slots_hold k x at in
-          let place : k ≡ stan = sym (found slots 1 k x w.numbered at).0 ∙ same_number x.order.key.stan stan e in
-          record { own = old.own; role = role_marked x (some_is s x (sym here ∙ ap (slot_at slots) (sym place) ∙ at)) x.role old.role }
+          let place : k ≡ stan = sym (found slots 1 k x w.numbered at).0 ∙ eqb-true x.order.key.stan stan e in
+          record { own = old.own; role = role_marked x (same_Some s x (sym here ∙ ap (slot_at slots) (sym place) ∙ at)) x.role old.role }
       by_test x at false e = let old = w.slots_hold k x at in record { own = old.own; role = role_other x x.role old.role }
 
   pub agreed-reversing : IsAgreed id (slots_with_reversal slots stan u) (sent ++ u ∷ []) given entries
@@ -177,7 +178,7 @@ module _ (id : ℕ) (slots : List Slot) (sent : List Instruction) (given : List 
           original = slot_at_stage (λ _. Reversing u.key.stan) s;
           stage = Reversing u.key.stan;
           found = slot-more marked (reversal_for stan u) stan (slot_at_stage (λ _. Reversing u.key.stan) s)
-              (changed-found (λ _. Reversing u.key.stan) stan slots stan s here ∙ ap (λ b. Some (cond b (slot_at_stage (λ _. Reversing u.key.stan) s) s)) (number_self s.order.key.stan stan (found slots 1 stan s w.numbered here).0));
+              (changed-found (λ _. Reversing u.key.stan) stan slots stan s here ∙ ap (λ b. Some (cond b (slot_at_stage (λ _. Reversing u.key.stan) s) s)) (eq-eqb s.order.key.stan stan (found slots 1 stan s w.numbered here).0));
           transaction = ap (on_stage (λ _. Reversing u.key.stan)) role;
           kept = ap Some (sym is);
           names = ap (λ (o : Instruction). o.act) is;

@@ -2,9 +2,9 @@
 use Rattle.std.proofs.Common.{◌≡◌, ℕ, Bool, true, false, refl, ap, sym, ◌∙◌, subst, List, [], ◌∷◌, cond}
 use Rattle.std.specs.Prelude.{◌==◌, Option, Some, None, option_map, if◌then◌else◌}
 use Rattle.std.specs.List.{AllByRecursion}
+use Rattle.std.proofs.lemmas.Option.{same_Some}
+use Rattle.std.proofs.lemmas.Bool.{eqb-true}
 use Rattle.iso_order.specs.Order.{Instruction}
-use Rattle.iso_order.proofs.Lists.{all-weaker, some_is}
-use Rattle.iso_order.proofs.Plain.{same_number}
 use Rattle.iso_issuer.specs.declared.journal.Entry.{Entry}
 use Rattle.iso_acquirer.specs.declared.event.Given.{Given}
 use Rattle.iso_acquirer.specs.declared.slot.Slot.{Slot}
@@ -14,6 +14,7 @@ use Rattle.iso_acquirer.specs.declared.slot.Stage.{Stage}
 use Rattle.iso_acquirer.specs.Acquirer.{slot_at, order_at, undo_of, on_stage, slot_at_stage, slots_at_stage}
 use Rattle.iso_acquirer.specs.Room.{AreNumbered}
 use Rattle.iso_acquirer.specs.Agreed.{IsStageOf, IsReversal, IsRole, IsSlot, IsKnown, IsAgreed}
+use Rattle.iso_acquirer.proofs.Lists.{all-weaker}
 use Rattle.iso_acquirer.proofs.Numbered.{found, numbered-changed}
 
 -- what is kept after a change
@@ -51,7 +52,7 @@ changed-back step stan slots n t h = go (slot_at slots n) refl (sym (slot-change
   where
     go : (f : Option Slot) → slot_at slots n ≡ f → option_map (changed_slot step stan) f ≡ Some t → (s : Slot) × (slot_at slots n ≡ Some s) × (changed_slot step stan s ≡ t)
     go None e g = cc
-    go (Some s) e g = (s, e, some_is _ t g)
+    go (Some s) e g = (s, e, same_Some _ t g)
 
 pub order-changed : (step : Stage → Stage) (stan : ℕ) (slots : List Slot) (n : ℕ) → order_at (slots_at_stage step stan slots) n ≡ order_at slots n
 order-changed step stan slots n = ap (option_map (λ s. s.order)) (slot-changed step stan slots n) ∙ go (slot_at slots n)
@@ -78,7 +79,7 @@ reversal-changed step stan slots n o numbered keeps u = by_test (u.original.orde
   where
     by_test : (b : Bool) → (u.original.order.key.stan == stan) ≡ b → IsReversal (slots_at_stage step stan slots) n o
     by_test true e =
-        let at : n ≡ stan = sym (found slots 1 n u.original numbered u.found).0 ∙ same_number u.original.order.key.stan stan e in
+        let at : n ≡ stan = sym (found slots 1 n u.original numbered u.found).0 ∙ eqb-true u.original.order.key.stan stan e in
         record {
           original = slot_at_stage step u.original;
           stage = step u.stage;
@@ -124,7 +125,7 @@ module _ (id : ℕ) (slots : List Slot) (sent : List Instruction) (given : List 
   slot-stays : (n : ℕ) (s : Slot) → slot_at slots n ≡ Some s → (b : Bool) → (s.order.key.stan == stan) ≡ b → IsSlot id entries (slots_at_stage step stan slots) (cond b (slot_at_stage step s) s)
   slot-stays n s here true e =
       let old = w.slots_hold n s here in
-      let at : n ≡ stan = sym (found slots 1 n s w.numbered here).0 ∙ same_number s.order.key.stan stan e in
+      let at : n ≡ stan = sym (found slots 1 n s w.numbered here).0 ∙ eqb-true s.order.key.stan stan e in
       record { own = old.own; role = stepped-role s (ap (slot_at slots) (sym at) ∙ here) s.role refl old.role }
   slot-stays n s here false e = let old = w.slots_hold n s here in record { own = old.own; role = other-role s.order s.role old.role }
 

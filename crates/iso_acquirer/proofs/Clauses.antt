@@ -2,15 +2,13 @@
 use Rattle.std.proofs.Common.{◌≡◌, ℕ, Bool, true, false, refl, ap, sym, ◌∙◌, subst, List, [], ◌∷◌, cond}
 use Rattle.std.specs.Prelude.{Option, Some, None, option_map, is_some}
 use Rattle.std.specs.List.{AllByRecursion}
+use Rattle.std.proofs.lemmas.Option.{same_Some, none-some}
 use Rattle.iso_order.specs.declared.key.TxKey.{TxKey}
 use Rattle.iso_order.specs.declared.act.Act.{Act}
 use Rattle.iso_order.specs.declared.act.Act.TheVariants.{Debit, Credit, Inquiry, Undo, Complete}
 use Rattle.iso_order.specs.declared.act.Money.{Money}
 use Rattle.iso_order.specs.Key.{same_key}
 use Rattle.iso_order.specs.Order.{Instruction}
-use Rattle.iso_order.proofs.Lists.{all-weaker, some_is}
-use Rattle.iso_order.proofs.Same.{same_key_is}
-use Rattle.iso_order.proofs.Plain.{none-some}
 use Rattle.iso_issuer.specs.declared.account.Account.{Account}
 use Rattle.iso_issuer.specs.declared.journal.Entry.{Entry}
 use Rattle.iso_issuer.specs.Effect.{effect_of, effect_by, is_key}
@@ -26,6 +24,8 @@ use Rattle.iso_acquirer.specs.declared.slot.Stage.TheVariants.{Approved, Decline
 use Rattle.iso_acquirer.specs.Acquirer.{slot_at, order_at, undo_of}
 use Rattle.iso_acquirer.specs.Agreed.{code_at, IsTransaction, IsRole, IsKnown, IsAgreed}
 use Rattle.iso_acquirer.specs.Agreement.{StandsIn}
+use Rattle.iso_acquirer.proofs.Keys.{same_key_is}
+use Rattle.iso_acquirer.proofs.Lists.{all-weaker}
 use Rattle.iso_acquirer.proofs.Numbered.{found}
 use Rattle.iso_acquirer.proofs.Made.{class_two, undo-acquirer}
 
@@ -35,7 +35,7 @@ found_known P [] k e all h = cc
 found_known P (x ∷ xs) k e all h = by_test (same_key x.order.key k) refl h (found_known P xs k e all.1)
   where
     by_test : (b : Bool) → same_key x.order.key k ≡ b → cond b (Some x) (entry_at xs k) ≡ Some e → (entry_at xs k ≡ Some e → P e × (e.order.key ≡ k)) → P e × (e.order.key ≡ k)
-    by_test true t here rest = let same : x ≡ e = some_is x e here in subst (λ y. P y × (y.order.key ≡ k)) same (all.0, same_key_is x.order.key k t)
+    by_test true t here rest = let same : x ≡ e = same_Some x e here in subst (λ y. P y × (y.order.key ≡ k)) same (all.0, same_key_is x.order.key k t)
     by_test false t here rest = rest here
 
 -- what reverses a key is a reversal of it
@@ -54,14 +54,14 @@ same_stage a b h = cc
 
 -- the order that is under a trace number is that of the slot there
 pub order_of_slot : (slots : List Slot) (n : ℕ) (s : Slot) (o : Instruction) → slot_at slots n ≡ Some s → order_at slots n ≡ Some o → s.order ≡ o
-order_of_slot slots n s o h g = some_is s.order o (ap (option_map (λ s. s.order)) (sym h) ∙ g)
+order_of_slot slots n s o h g = same_Some s.order o (ap (option_map (λ s. s.order)) (sym h) ∙ g)
 
 pub slot_of_order : (slots : List Slot) (n : ℕ) (o : Instruction) → order_at slots n ≡ Some o → (s : Slot) × (slot_at slots n ≡ Some s) × (s.order ≡ o)
 slot_of_order slots n o h = go (slot_at slots n) refl h
   where
     go : (f : Option Slot) → slot_at slots n ≡ f → option_map (λ s. s.order) f ≡ Some o → (s : Slot) × (slot_at slots n ≡ Some s) × (s.order ≡ o)
     go None e g = cc
-    go (Some s) e g = (s, e, some_is s.order o g)
+    go (Some s) e g = (s, e, same_Some s.order o g)
 
 -- what is kept of an entry under a key
 pub kept_entry : (es : List Entry) (k : TxKey) (code : ℕ) → code_at es k ≡ Some code → (e : Entry) × (entry_at es k ≡ Some e) × (e.answer.code ≡ code)
@@ -69,7 +69,7 @@ kept_entry es k code h = go (entry_at es k) refl h
   where
     go : (f : Option Entry) → entry_at es k ≡ f → option_map (λ a. a.code) (option_map (λ e. e.answer) f) ≡ Some code → (e : Entry) × (entry_at es k ≡ Some e) × (e.answer.code ≡ code)
     go None e g = cc
-    go (Some x) e g = (x, e, some_is x.answer.code code g)
+    go (Some x) e g = (x, e, same_Some x.answer.code code g)
 
 -- a debit does something
 pub debit_effect : (o : Instruction) (m : Money) → o.act ≡ Debit m → is_some (effect_of o) ≡ true
@@ -101,9 +101,9 @@ module _ (id : ℕ) (slots : List Slot) (sent : List Instruction) (given : List 
           absurd (debit_not_undo held.money s.order.key (left_by r.order.act) (sym held.debit ∙ ap (λ (o : Instruction). o.act) same ∙ reverses s.order.key r.order.act is))
       by_role x same (Reversal stan) held =
           let act : r.order.act ≡ Undo held.original.order.key 0 = ap (λ (o : Instruction). o.act) (sym same) ∙ held.names in
-          let key : s.order.key ≡ held.original.order.key = some_is s.order.key held.original.order.key (ap undone_key (sym (reverses s.order.key r.order.act is) ∙ act)) in
+          let key : s.order.key ≡ held.original.order.key = same_Some s.order.key held.original.order.key (ap undone_key (sym (reverses s.order.key r.order.act is) ∙ act)) in
           let at : n ≡ stan = sym place ∙ ap (λ (k : TxKey). k.stan) key ∙ (found slots 1 stan held.original w.numbered held.found).0 in
-          let one : s ≡ held.original = some_is s held.original (sym here ∙ ap (slot_at slots) at ∙ held.found) in
+          let one : s ≡ held.original = same_Some s held.original (sym here ∙ ap (slot_at slots) at ∙ held.found) in
           let stages : stage ≡ held.stage = same_stage stage held.stage (sym role ∙ ap (λ (x : Slot). x.role) one ∙ held.transaction) in
           (ap left_by act, ap (λ (x : Slot). undo_of x.order stage) one ∙ ap (undo_of held.original.order) stages ∙ held.kept ∙ ap Some same)
 

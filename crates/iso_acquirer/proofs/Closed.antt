@@ -1,11 +1,11 @@
 -- What is closed stays.
 use Rattle.std.proofs.Common.{◌≡◌, ℕ, Bool, true, false, refl, arith, ap, sym, ◌∙◌, subst, List, [], ◌∷◌, ◌++◌, length, ◌+◌, cond}
 use Rattle.std.specs.Prelude.{◌==◌, Option, Some, None, option_and_then, nat_lt, Result, Ok, Err, OnOk, OnErr}
+use Rattle.std.proofs.lemmas.Option.{same_Some}
+use Rattle.std.proofs.lemmas.Bool.{eqb-true}
 use Rattle.iso_order.specs.declared.key.TxKey.{TxKey}
 use Rattle.iso_order.specs.Key.{same_key}
 use Rattle.iso_order.specs.Order.{Instruction}
-use Rattle.iso_order.proofs.Lists.{some_is}
-use Rattle.iso_order.proofs.Plain.{same_number}
 use Rattle.iso_acquirer.specs.declared.event.Event.{Event}
 use Rattle.iso_acquirer.specs.declared.event.Event.TheVariants.{Begin, Timeout, Deliver, Answer, Other}
 use Rattle.iso_acquirer.specs.declared.fault.AcqFault.{AcqFault}
@@ -48,13 +48,13 @@ stays-changed step m slots numbered keeps stan state told closed = by_slot (slot
   where
     by_role : (s : Slot) → slot_at slots m ≡ Some s → (role : Role) → s.role ≡ role → state_in_role role ≡ Some state → state_in_role (on_stage step role) ≡ Some state
     by_role s here (Transaction stage) role told =
-        let final : is_closed (state_at_stage stage) ≡ true = ap is_closed (some_is (state_at_stage stage) state told) ∙ closed in
+        let final : is_closed (state_at_stage stage) ≡ true = ap is_closed (same_Some (state_at_stage stage) state told) ∙ closed in
         ap Some (keeps s stage here role final) ∙ told
     by_role s here (Reversal k) role told = cc
 
     by_test : (s : Slot) → slot_at slots stan ≡ Some s → (b : Bool) → (s.order.key.stan == m) ≡ b → state_in_role s.role ≡ Some state → state_in_role (cond b (slot_at_stage step s) s).role ≡ Some state
     by_test s here true e told =
-        let at : stan ≡ m = sym (found slots 1 stan s numbered here).0 ∙ same_number s.order.key.stan m e in
+        let at : stan ≡ m = sym (found slots 1 stan s numbered here).0 ∙ eqb-true s.order.key.stan m e in
         by_role s (ap (slot_at slots) (sym at) ∙ here) s.role refl told
     by_test s here false e told = told
 
@@ -98,7 +98,7 @@ module _ (slots : List Slot) (numbered : AreNumbered 1 slots) where
   open-stays new s n here role =
       stays-changed (λ _. new) s.order.key.stan slots numbered
       (λ x stage there is closed.
-      let same : Waiting n ≡ stage = same_stage (Waiting n) stage (sym role ∙ ap (λ (y : Slot). y.role) (some_is s x (sym here ∙ there)) ∙ is) in
+      let same : Waiting n ≡ stage = same_stage (Waiting n) stage (sym role ∙ ap (λ (y : Slot). y.role) (same_Some s x (sym here ∙ there)) ∙ is) in
       absurd (never_true (ap (λ g. is_closed (state_at_stage g)) same ∙ closed)))
     where
       never_true : false ≡ true → ⊥

@@ -5,7 +5,6 @@ use Rattle.iso_order.specs.declared.key.TxKey.{TxKey}
 use Rattle.iso_order.specs.Key.{same_key}
 use Rattle.iso_order.specs.Outcome.{Outcome}
 use Rattle.iso_order.specs.Order.{Instruction, is_valid}
-use Rattle.iso_order.proofs.Lists.{all-weaker, all-push, find-more}
 use Rattle.iso_issuer.specs.declared.journal.Entry.{Entry}
 use Rattle.iso_issuer.specs.Journal.{entry_at, is_entered, HasDistinctKeys}
 use Rattle.iso_issuer.specs.Decision.{new_entry, answer_for}
@@ -20,6 +19,7 @@ use Rattle.iso_acquirer.specs.declared.slot.Stage.{Stage}
 use Rattle.iso_acquirer.specs.declared.slot.Stage.TheVariants.{Waiting, Reversing, Approved, Declined, Reversed}
 use Rattle.iso_acquirer.specs.Acquirer.{order_at}
 use Rattle.iso_acquirer.specs.Agreed.{answer_at, code_at, IsStageOf, IsRole, IsKnown, IsAgreed}
+use Rattle.iso_acquirer.proofs.Lists.{all-weaker, all-push, find-more}
 use Rattle.iso_acquirer.proofs.Clauses.{own_order, slot_of_order}
 
 -- ---- what the entries say goes on to hold

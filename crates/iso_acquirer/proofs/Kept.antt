@@ -4,7 +4,6 @@ use Rattle.std.specs.Prelude.{◌==◌, ◌||◌, Some}
 use Rattle.std.specs.List.{AllByRecursion}
 use Rattle.std.proofs.lemmas.List.Sums.{sum_by_push}
 use Rattle.iso_order.specs.Order.{Instruction}
-use Rattle.iso_order.proofs.Lists.{all-push}
 use Rattle.iso_acquirer.specs.declared.slot.Slot.{Slot}
 use Rattle.iso_acquirer.specs.declared.slot.Role.{Role}
 use Rattle.iso_acquirer.specs.declared.slot.Role.TheVariants.{Transaction, Reversal}
@@ -12,6 +11,7 @@ use Rattle.iso_acquirer.specs.declared.slot.Stage.{Stage}
 use Rattle.iso_acquirer.specs.declared.slot.Stage.TheVariants.{Waiting, Reversing, Approved, Declined, Reversed}
 use Rattle.iso_acquirer.specs.Acquirer.{slot_at, on_stage, slots_at_stage, transaction_of, reversal_for, slots_with, slots_with_reversal, stage_after, stage_after_undo}
 use Rattle.iso_acquirer.specs.Room.{AreNumbered, reversals_at, reversals_of, reversals_left, IsTraced, IsRequest, IsRoomKept}
+use Rattle.iso_acquirer.proofs.Lists.{all-push}
 use Rattle.iso_acquirer.proofs.Numbered.{summed, numbered-changed, numbered-push, length-changed, all-changed, all-found}
 
 abbrev AreRequests : List Slot → Type 0
@@ -126,26 +126,3 @@ undone-traced (Reversing u) code h = by_code (code == 0)
 undone-traced Approved code h = tt
 undone-traced (Declined c) code h = tt
 undone-traced (Reversed u) code h = tt
-
-pub after-fewer : (stage : Stage) (code : ℕ) → reversals_at (stage_after code stage) ≤ reversals_at stage
-after-fewer (Waiting n) code = by_code (code == 0) ((code == 94) || (code == 96))
-  where
-    by_code : (b t : Bool) → reversals_at (cond b Approved (cond t (Waiting n) (Declined code))) ≤ 1
-    by_code true t = omega arith
-    by_code false true = omega arith
-    by_code false false = omega arith
-after-fewer (Reversing u) code = omega arith
-after-fewer Approved code = omega arith
-after-fewer (Declined c) code = omega arith
-after-fewer (Reversed u) code = omega arith
-
-pub undone-fewer : (stage : Stage) (code : ℕ) → reversals_at (stage_after_undo code stage) ≤ reversals_at stage
-undone-fewer (Waiting n) code = omega arith
-undone-fewer (Reversing u) code = by_code (code == 0)
-  where
-    by_code : (b : Bool) → reversals_at (cond b (Reversed u) (Reversing u)) ≤ 0
-    by_code true = omega arith
-    by_code false = omega arith
-undone-fewer Approved code = omega arith
-undone-fewer (Declined c) code = omega arith
-undone-fewer (Reversed u) code = omega arith

@@ -1,3 +1,5 @@
+mod Keys
+mod Lists
 pub mod Numbered
 pub mod Made
 pub mod Kept

@@ -3,14 +3,13 @@ use Rattle.std.proofs.Common.{◌≡◌, ℕ, Bool, true, refl, arith, ap, sym, 
 use Rattle.std.specs.Prelude.{◌&&◌, ◌||◌, ◌==◌, Option, Some, None, IsSome, nat_le, if◌then◌else◌}
 use Rattle.std.proofs.lemmas.Bool.Decides.{nat_tests}
 use Rattle.std.proofs.lemmas.Grind.{common_steps}
-use Rattle.std.proofs.lemmas.Bool.{and_from, and_parts}
+use Rattle.std.proofs.lemmas.Bool.{and_from, and_parts, eq-eqb}
 use Rattle.iso_order.specs.declared.key.TxKey.{TxKey}
 use Rattle.iso_order.specs.declared.act.Act.TheVariants.{Debit, Undo}
 use Rattle.iso_order.specs.declared.act.Money.{Money}
 use Rattle.iso_order.specs.Pan.{is_pan}
 use Rattle.iso_order.specs.Key.{class_digit, is_valid_key}
 use Rattle.iso_order.specs.Order.{Instruction, is_account, is_currency, has_amount, is_payment, is_valid, is_valid_act}
-use Rattle.iso_order.proofs.Plain.{number_self}
 use Rattle.iso_acquirer.specs.Acquirer.{IsFair, reversal_under}
 
 -- a test that holds gives what it asks for
@@ -67,7 +66,7 @@ reversal-fits o stan valid base few =
     and_from (is_valid_key key) _ (undo_key o.key stan original few)
     (and_from (is_valid_key o.key && is_payment o.key && (o.key.acquirer == o.key.acquirer)) (nat_le 0 999999999999)
     (and_from (is_valid_key o.key && is_payment o.key) (o.key.acquirer == o.key.acquirer)
-    (and_from (is_valid_key o.key) (is_payment o.key) original (payment_of o.key base)) (number_self o.key.acquirer o.key.acquirer refl))
+    (and_from (is_valid_key o.key) (is_payment o.key) original (payment_of o.key base)) (eq-eqb o.key.acquirer o.key.acquirer refl))
     refl)
 
 -- a valid reversal names a key of its own acquirer

@@ -3,8 +3,8 @@ use Rattle.std.proofs.Common.{◌≡◌, ℕ, zero, suc, Bool, true, false, refl
 use Rattle.std.specs.Prelude.{◌==◌, Option, Some, None, sum_by, slice_get, IfSome}
 use Rattle.std.specs.List.{AllByRecursion}
 use Rattle.std.proofs.lemmas.List.Sums.{sum_by-cons}
-use Rattle.iso_order.proofs.Lists.{some_is}
-use Rattle.iso_order.proofs.Plain.{same_number, number_self, other_number}
+use Rattle.std.proofs.lemmas.Option.{same_Some}
+use Rattle.std.proofs.lemmas.Bool.{eqb-true, eq-eqb, ne_eqb}
 use Rattle.iso_acquirer.specs.declared.slot.Slot.{Slot}
 use Rattle.iso_acquirer.specs.declared.slot.Role.TheVariants.{Reversal}
 use Rattle.iso_acquirer.specs.declared.slot.Stage.{Stage}
@@ -15,24 +15,24 @@ use Rattle.iso_acquirer.specs.Room.{AreNumbered}
 pub below : (slots : List Slot) (n m : ℕ) → AreNumbered n slots → m < n → slot_at slots m ≡ None
 below [] n m h less = refl
 below (s ∷ ss) n m h less =
-    let apart : (s.order.key.stan == m) ≡ false = other_number s.order.key.stan m (λ e. omega (arith, h.0, e)) in
+    let apart : (s.order.key.stan == m) ≡ false = ne_eqb s.order.key.stan m (λ e. omega (arith, h.0, e)) in
     ap (λ b. cond b (Some s) (slot_at ss m)) apart ∙ below ss (n + 1) m h.1 (omega arith)
 
 -- a trace number is a place
 pub placed : (slots : List Slot) (n i m : ℕ) → AreNumbered n slots → m ≡ n + i → slot_at slots m ≡ slice_get slots i
 placed [] n i m h is = refl
 placed (s ∷ ss) n zero m h is =
-    let here : (s.order.key.stan == m) ≡ true = number_self s.order.key.stan m (omega (arith, h.0)) in
+    let here : (s.order.key.stan == m) ≡ true = eq-eqb s.order.key.stan m (omega (arith, h.0)) in
     ap (λ b. cond b (Some s) (slot_at ss m)) here
 placed (s ∷ ss) n (suc i) m h is =
-    let apart : (s.order.key.stan == m) ≡ false = other_number s.order.key.stan m (λ e. omega (arith, h.0, e)) in
+    let apart : (s.order.key.stan == m) ≡ false = ne_eqb s.order.key.stan m (λ e. omega (arith, h.0, e)) in
     ap (λ b. cond b (Some s) (slot_at ss m)) apart ∙ placed ss (n + 1) i m h.1 (omega arith)
 
 -- above the last number there is nothing
 pub above : (slots : List Slot) (n m : ℕ) → AreNumbered n slots → n + length slots ≤ m → slot_at slots m ≡ None
 above [] n m h more = refl
 above (s ∷ ss) n m h more =
-    let apart : (s.order.key.stan == m) ≡ false = other_number s.order.key.stan m (λ e. omega (arith, h.0, e)) in
+    let apart : (s.order.key.stan == m) ≡ false = ne_eqb s.order.key.stan m (λ e. omega (arith, h.0, e)) in
     ap (λ b. cond b (Some s) (slot_at ss m)) apart ∙ above ss (n + 1) m h.1 (omega arith)
 
 -- a change of what isn't there
@@ -49,13 +49,13 @@ pub written : (step : Stage → Stage) (slots : List Slot) (n i m : ℕ) (s x : 
     slice_set slots i x ≡ slots_at_stage step m slots
 written step [] n i m s x h is there new = cc
 written step (y ∷ ys) n zero m s x h is there new =
-    let here : (y.order.key.stan == m) ≡ true = number_self y.order.key.stan m (omega (arith, h.0)) in
-    let same : y ≡ s = some_is y s (sym (ap (λ b. cond b (Some y) (slot_at ys m)) here) ∙ there) in
+    let here : (y.order.key.stan == m) ≡ true = eq-eqb y.order.key.stan m (omega (arith, h.0)) in
+    let same : y ≡ s = same_Some y s (sym (ap (λ b. cond b (Some y) (slot_at ys m)) here) ∙ there) in
     let rest : slots_at_stage step m ys ≡ ys = unchanged step ys m (below ys (n + 1) m h.1 (omega arith)) in
     let first : cond (y.order.key.stan == m) (slot_at_stage step y) y ≡ x = ap (λ b. cond b (slot_at_stage step y) y) here ∙ ap (slot_at_stage step) same ∙ new in
     sym (ap (λ z. z ∷ slots_at_stage step m ys) first ∙ ap (λ zs. x ∷ zs) rest)
 written step (y ∷ ys) n (suc i) m s x h is there new =
-    let apart : (y.order.key.stan == m) ≡ false = other_number y.order.key.stan m (λ e. omega (arith, h.0, e)) in
+    let apart : (y.order.key.stan == m) ≡ false = ne_eqb y.order.key.stan m (λ e. omega (arith, h.0, e)) in
     let found : slot_at ys m ≡ Some s = sym (ap (λ b. cond b (Some y) (slot_at ys m)) apart) ∙ there in
     let first : cond (y.order.key.stan == m) (slot_at_stage step y) y ≡ y = ap (λ b. cond b (slot_at_stage step y) y) apart in
     ap (λ zs. y ∷ zs) (written step ys (n + 1) i m s x h.1 (omega arith) found new) ∙ sym (ap (λ z. z ∷ slots_at_stage step m ys) first)
@@ -70,8 +70,8 @@ summed g step (y ∷ ys) n m s h there = by_test (y.order.key.stan == m) refl th
         (slot_at ys m ≡ Some s → sum_by g (slots_at_stage step m ys) + g s ≡ sum_by g ys + g (slot_at_stage step s)) →
         sum_by g (cond b (slot_at_stage step y) y ∷ slots_at_stage step m ys) + g s ≡ sum_by g (y ∷ ys) + g (slot_at_stage step s)
     by_test true e found rest =
-        let same : y ≡ s = some_is y s found in
-        let at : y.order.key.stan ≡ m = same_number y.order.key.stan m e in
+        let same : y ≡ s = same_Some y s found in
+        let at : y.order.key.stan ≡ m = eqb-true y.order.key.stan m e in
         let others : slots_at_stage step m ys ≡ ys = unchanged step ys m (below ys (n + 1) m h.1 (omega (arith, h.0))) in
         rw (others, same) (omega (arith, sum_by-cons g (slot_at_stage step s) ys, sum_by-cons g s ys))
     by_test false e found rest =
@@ -103,8 +103,8 @@ found (y ∷ ys) n m s h there = by_test (y.order.key.stan == m) refl there (fou
     by_test : (b : Bool) → (y.order.key.stan == m) ≡ b → cond b (Some y) (slot_at ys m) ≡ Some s →
         (slot_at ys m ≡ Some s → (s.order.key.stan ≡ m) × (n + 1 ≤ m) × (m < n + 1 + length ys)) → (s.order.key.stan ≡ m) × (n ≤ m) × (m < n + length (y ∷ ys))
     by_test true e here rest =
-        let at : y.order.key.stan ≡ m = same_number y.order.key.stan m e in
-        (ap (λ (z : Slot). z.order.key.stan) (sym (some_is y s here)) ∙ at, omega (arith, h.0, at), omega (arith, h.0, at))
+        let at : y.order.key.stan ≡ m = eqb-true y.order.key.stan m e in
+        (ap (λ (z : Slot). z.order.key.stan) (sym (same_Some y s here)) ∙ at, omega (arith, h.0, at), omega (arith, h.0, at))
     by_test false e here rest = let r = rest here in (r.0, omega (arith, r.1), omega (arith, r.2))
 
 -- what is found stands under its own number
@@ -123,8 +123,8 @@ reversal-stays step (y ∷ ys) n m k s h there is = by_test (y.order.key.stan ==
     by_test : (b : Bool) → (y.order.key.stan == m) ≡ b → cond b (Some y) (slot_at ys m) ≡ Some s → (slot_at ys m ≡ Some s → slots_at_stage step m ys ≡ ys) →
         cond b (slot_at_stage step y) y ∷ slots_at_stage step m ys ≡ y ∷ ys
     by_test true e here rest =
-        let at : y.order.key.stan ≡ m = same_number y.order.key.stan m e in
-        let role : y.role ≡ Reversal k = ap (λ (x : Slot). x.role) (some_is y s here) ∙ is in
+        let at : y.order.key.stan ≡ m = eqb-true y.order.key.stan m e in
+        let role : y.role ≡ Reversal k = ap (λ (x : Slot). x.role) (same_Some y s here) ∙ is in
         ap (λ x. x ∷ slots_at_stage step m ys) (plain y role) ∙ ap (λ xs. y ∷ xs) (unchanged step ys m (below ys (n + 1) m h.1 (omega (arith, h.0, at))))
     by_test false e here rest = ap (λ xs. y ∷ xs) (rest here)
 
@@ -135,7 +135,7 @@ all-found P [] m s all there = cc
 all-found P (y ∷ ys) m s all there = by_test (y.order.key.stan == m) there (all-found P ys m s all.1)
   where
     by_test : (b : Bool) → cond b (Some y) (slot_at ys m) ≡ Some s → (slot_at ys m ≡ Some s → P s) → P s
-    by_test true here rest = subst P (some_is y s here) all.0
+    by_test true here rest = subst P (same_Some y s here) all.0
     by_test false here rest = rest here
 
 pub all-changed : (P : Slot → Type 0) (step : Stage → Stage) (m : ℕ) (slots : List Slot) → ((s : Slot) → P s → P (slot_at_stage step s)) → AllByRecursion P slots → AllByRecursion P (slots_at_stage step m slots)

@@ -2,10 +2,9 @@
 use Rattle.std.proofs.Common.{◌≡◌, ℕ, refl, sym, subst, List, [], ◌∷◌}
 use Rattle.std.specs.Prelude.{Option, Some, None}
 use Rattle.std.specs.List.{AllByRecursion}
+use Rattle.std.proofs.lemmas.Option.{none-some}
 use Rattle.iso_order.specs.Pan.{AccountNumber}
 use Rattle.iso_order.specs.Order.{Instruction}
-use Rattle.iso_order.proofs.Lists.{all-at}
-use Rattle.iso_order.proofs.Plain.{none-some}
 use Rattle.iso_issuer.specs.declared.account.Account.{Account}
 use Rattle.iso_issuer.specs.Books.{journal}
 use Rattle.iso_issuer.specs.Laws.{JournalsGrow, KnownChangesNothing, NewComesLast, KeysStayDistinct, AnswersAreEntered}
@@ -19,6 +18,7 @@ use Rattle.iso_acquirer.specs.World.{World, IsMade, IsStep, IsRan, IsBegun, IsAs
 use Rattle.iso_acquirer.specs.Agreed.{answer_at, IsSound}
 use Rattle.iso_acquirer.specs.Agreement.{StaysClosed}
 use Rattle.iso_acquirer.specs.Runs.{unused, CanHappen, IsAcquirer}
+use Rattle.iso_acquirer.proofs.Lists.{all-at}
 use Rattle.iso_acquirer.proofs.Clauses.{transaction_at}
 use Rattle.iso_acquirer.proofs.Entered.{agreed-entering, agreed-delivered}
 use Rattle.iso_acquirer.proofs.Answered.{agreed-answered}

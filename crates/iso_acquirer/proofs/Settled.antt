@@ -3,13 +3,13 @@ use Rattle.std.proofs.Common.{◌≡◌, ℕ, Bool, true, false, refl, arith, ap
 use Rattle.std.specs.Prelude.{◌==◌, Some, None, map, is_some, option_and_then, ℤ, pos, ◌+ℤ◌, ◌-ℤ◌}
 use Rattle.std.specs.List.{AllByRecursion}
 use Rattle.std.proofs.lemmas.Int.{ints}
+use Rattle.std.proofs.lemmas.Option.{same_Some}
 use Rattle.iso_order.specs.declared.act.Act.TheVariants.{Debit}
 use Rattle.iso_order.specs.declared.act.Money.{Money}
 use Rattle.iso_order.specs.Pan.{AccountNumber}
 use Rattle.iso_order.specs.declared.key.TxKey.{TxKey}
 use Rattle.iso_order.specs.Key.{class_digit}
 use Rattle.iso_order.specs.Order.{Instruction, same_pan}
-use Rattle.iso_order.proofs.Lists.{all-weaker, some_is, sum-all}
 use Rattle.iso_issuer.specs.declared.account.Account.{Account}
 use Rattle.iso_issuer.specs.declared.effect.Side.TheVariants.{Credited, Debited, Held}
 use Rattle.iso_issuer.specs.declared.journal.Entry.{Entry}
@@ -29,10 +29,11 @@ use Rattle.iso_acquirer.specs.Acquirer.{slot_at, state_at_stage, state_in_role}
 use Rattle.iso_acquirer.specs.World.{World}
 use Rattle.iso_acquirer.specs.Agreed.{IsTransaction, IsRole, IsKnown, IsSound}
 use Rattle.iso_acquirer.specs.Agreement.{is_closed, is_state_approved, debit_amount, approved_total, IsSettled, BooksAgree}
+use Rattle.iso_acquirer.proofs.Lists.{all-weaker}
 use Rattle.iso_acquirer.proofs.Numbered.{found}
 use Rattle.iso_acquirer.proofs.Made.{class_two}
 use Rattle.iso_acquirer.proofs.Clauses.{found_known, slot_of_order, kept_entry, debit_effect, approved_granted, declined-never, reversed-never}
-use Rattle.iso_acquirer.proofs.Sums.{sum-none, all-map, all-slots, all-entries, slot_sum, at_slot, IsOwnIn, to-slots}
+use Rattle.iso_acquirer.proofs.Sums.{sum-all, sum-none, all-map, all-slots, all-entries, slot_sum, at_slot, IsOwnIn, to-slots}
 
 -- what the acquirer's books count of an order
 abbrev approved_in : AccountNumber → Slot → ℕ
@@ -109,7 +110,7 @@ module _ (of_orders : EntriesAreOfOrders) (entered_has : EnteredHasEntry) (weigh
   of_stage e s at here same Approved role closed t =
       let place = found w.acquirer.slots 1 e.order.key.stan s sound.agreed.numbered here in
       let g = approved_granted w.acquirer.id w.acquirer.slots w.sent w.given (journal w.issuer) sound.agreed none_is_none e.order.key.stan s here place.0 role in
-      let entry : g.entry ≡ e = some_is g.entry e (sym g.found_it ∙ ap (λ (o : Instruction). entry_at (journal w.issuer) o.key) same ∙ at) in
+      let entry : g.entry ≡ e = same_Some g.entry e (sym g.found_it ∙ ap (λ (o : Instruction). entry_at (journal w.issuer) o.key) same ∙ at) in
       let act_is : g.entry.order.act ≡ Debit t.money = ap (λ (o : Instruction). o.act) g.same ∙ t.debit in
       let two : class_digit g.entry.order.key ≡ 2 = class_two g.entry.order.key (ap (λ (o : Instruction). o.key.base) g.same ∙ t.base) in
       of_debit e s t.money t.money.amount here same t.debit t.base

@@ -3,20 +3,23 @@ use Rattle.std.proofs.Common.{◌≡◌, ◌≢◌, ℕ, Bool, true, false, refl
 use Rattle.std.specs.Prelude.{◌||◌, ◌==◌, Option, Some, None, map, is_some, sum_by}
 use Rattle.std.specs.List.{AllByRecursion}
 use Rattle.std.proofs.lemmas.List.Sums.{sum_by-cons}
+use Rattle.std.proofs.lemmas.Option.{same_Some}
+use Rattle.std.proofs.lemmas.Bool.{eqb-true, eq-eqb, ne_eqb, both_ways, eqb-false}
 use Rattle.iso_order.specs.declared.key.TxKey.{TxKey}
 use Rattle.iso_order.specs.Key.{same_key}
 use Rattle.iso_order.specs.Order.{Instruction}
-use Rattle.iso_order.proofs.Lists.{some_is}
-use Rattle.iso_order.proofs.Same.{same_key_is, same_key_self}
-use Rattle.iso_order.proofs.Plain.{same_number, number_self, other_number, clash, unlike}
 use Rattle.iso_issuer.specs.declared.journal.Entry.{Entry}
 use Rattle.iso_issuer.specs.Journal.{entry_at, is_entered, HasDistinctKeys}
-use Rattle.iso_issuer.proofs.Entries.{entered-found}
 use Rattle.iso_acquirer.specs.declared.slot.Slot.{Slot}
 use Rattle.iso_acquirer.specs.Acquirer.{slot_at, order_at}
 use Rattle.iso_acquirer.specs.Room.{AreNumbered}
+use Rattle.iso_acquirer.proofs.Keys.{same_key_is, same_key_self}
 use Rattle.iso_acquirer.proofs.Numbered.{found}
 use Rattle.iso_acquirer.proofs.Clauses.{slot_of_order}
+
+pub sum-all : {X : Type 0} (f g : X → ℕ) (xs : List X) → AllByRecursion (λ x. f x ≡ g x) xs → sum_by f xs ≡ sum_by g xs
+sum-all f g [] all = refl
+sum-all f g (x ∷ xs) all = omega (arith, all.0, sum-all f g xs all.1, sum_by-cons f x xs, sum_by-cons g x xs)
 
 pub sum-none : {X : Type 0} (f : X → ℕ) (xs : List X) → AllByRecursion (λ x. f x ≡ 0) xs → sum_by f xs ≡ 0
 sum-none f [] all = refl
@@ -34,14 +37,23 @@ all-map P f (x ∷ xs) all = (all.0, all-map P f xs all.1)
 pub all-slots : (P : Slot → Type 0) (slots : List Slot) (n : ℕ) → AreNumbered n slots → ((m : ℕ) (s : Slot) → slot_at slots m ≡ Some s → P s) → AllByRecursion P slots
 all-slots P [] n h each = tt
 all-slots P (s ∷ ss) n h each = (
-  each n s (ap (λ b. cond b (Some s) (slot_at ss n)) (number_self s.order.key.stan n h.0)),
+  each n s (ap (λ b. cond b (Some s) (slot_at ss n)) (eq-eqb s.order.key.stan n h.0)),
   all-slots P ss (n + 1) h.1 (λ m t there. each m t (later m t there)),
 )
   where
     later : (m : ℕ) (t : Slot) → slot_at ss m ≡ Some t → slot_at (s ∷ ss) m ≡ Some t
     later m t there =
         let place = found ss (n + 1) m t h.1 there in
-        ap (λ b. cond b (Some s) (slot_at ss m)) (other_number s.order.key.stan m (λ e. omega (arith, h.0, place.1, e))) ∙ there
+        ap (λ b. cond b (Some s) (slot_at ss m)) (ne_eqb s.order.key.stan m (λ e. omega (arith, h.0, place.1, e))) ∙ there
+
+-- a key is entered where it has an entry
+entered-found : (es : List Entry) (k : TxKey) → is_entered (map (λ e. e.order) es) k ≡ is_some (entry_at es k)
+entered-found [] k = refl
+entered-found (e ∷ es) k = by_test (same_key e.order.key k) (entered-found es k)
+  where
+    by_test : (b : Bool) → is_entered (map (λ e. e.order) es) k ≡ is_some (entry_at es k) → (b || is_entered (map (λ e. e.order) es) k) ≡ is_some (cond b (Some e) (entry_at es k))
+    by_test true known = refl
+    by_test false known = known
 
 -- what holds of each entry that is found holds of all, where keys are distinct
 pub all-entries : (P : Entry → Type 0) (es : List Entry) → HasDistinctKeys (map (λ e. e.order) es) → ((e : Entry) → entry_at es e.order.key ≡ Some e → P e) → AllByRecursion P es
@@ -55,7 +67,7 @@ all-entries P (e ∷ es) distinct each = (
     later x there true t =
         let same : e.order.key ≡ x.order.key = same_key_is e.order.key x.order.key t in
         let entered_too : is_entered (map (λ e. e.order) es) e.order.key ≡ true = ap (is_entered (map (λ e. e.order) es)) same ∙ entered-found es x.order.key ∙ ap is_some there in
-        absurd (clash (is_entered (map (λ e. e.order) es) e.order.key) entered_too distinct.0)
+        absurd (both_ways (is_entered (map (λ e. e.order) es) e.order.key) distinct.0 entered_too)
     later x there false t = ap (λ b. cond b (Some e) (entry_at es x.order.key)) t ∙ there
 
 -- ---- from entries to slots
@@ -84,9 +96,9 @@ picked g (y ∷ ys) n k s h there is = by_test (y.order.key.stan == k.stan) refl
     by_test : (b : Bool) → (y.order.key.stan == k.stan) ≡ b → cond b (Some y) (slot_at ys k.stan) ≡ Some s → (slot_at ys k.stan ≡ Some s → sum_by (λ x. cond (same_key k x.order.key) (g x) 0) ys ≡ g s) →
         sum_by (λ x. cond (same_key k x.order.key) (g x) 0) (y ∷ ys) ≡ g s
     by_test true e here later =
-        let same : y ≡ s = some_is y s here in
+        let same : y ≡ s = same_Some y s here in
         let key : y.order.key ≡ k = ap (λ (z : Slot). z.order.key) same ∙ is in
-        let at : y.order.key.stan ≡ k.stan = same_number y.order.key.stan k.stan e in
+        let at : y.order.key.stan ≡ k.stan = eqb-true y.order.key.stan k.stan e in
         let rest : sum_by (λ x. cond (same_key k x.order.key) (g x) 0) ys ≡ 0 =
         sum-none (λ x. cond (same_key k x.order.key) (g x) 0) ys
         (all-slots (λ x. cond (same_key k x.order.key) (g x) 0 ≡ 0) ys (n + 1) h.1
@@ -95,7 +107,7 @@ picked g (y ∷ ys) n k s h there is = by_test (y.order.key.stan == k.stan) refl
         let first : cond (same_key k y.order.key) (g y) 0 ≡ g s = ap (λ b. cond b (g y) 0) (ap (same_key k) key ∙ same_key_self k) ∙ ap g same in
         omega (arith, sum_by-cons (λ x. cond (same_key k x.order.key) (g x) 0) y ys, rest, first)
     by_test false e here later =
-        let first : cond (same_key k y.order.key) (g y) 0 ≡ 0 = ap (λ b. cond b (g y) 0) (other_key k y.order.key (unlike y.order.key.stan k.stan e)) in
+        let first : cond (same_key k y.order.key) (g y) 0 ≡ 0 = ap (λ b. cond b (g y) 0) (other_key k y.order.key (eqb-false y.order.key.stan k.stan e)) in
         omega (arith, sum_by-cons (λ x. cond (same_key k x.order.key) (g x) 0) y ys, first, later here)
 
 -- an entry's order is what is kept under its trace number

@@ -1,9 +1,8 @@
 -- No answer came in time: the acquirer sends again, or reverses.
 use Rattle.std.proofs.Common.{◌≡◌, ℕ, Bool, true, false, refl, ap, sym, ◌∙◌, subst, List, [], ◌∷◌, ◌++◌, length, cond}
 use Rattle.std.specs.Prelude.{◌==◌, Option, Some, None, option_map, nat_lt, Result, Ok, Err}
+use Rattle.std.proofs.lemmas.Option.{same_Some, none-some}
 use Rattle.iso_order.specs.Order.{Instruction}
-use Rattle.iso_order.proofs.Lists.{some_is}
-use Rattle.iso_order.proofs.Plain.{none-some}
 use Rattle.iso_issuer.specs.declared.journal.Entry.{Entry}
 use Rattle.iso_acquirer.specs.declared.event.Given.{Given}
 use Rattle.iso_acquirer.specs.declared.fault.AcqFault.{AcqFault}
@@ -35,7 +34,7 @@ module _ (id : ℕ) (slots : List Slot) (sent : List Instruction) (given : List 
   again s n here role =
       agreed-sent id (slots_at_stage (λ _. Waiting 2) s.order.key.stan slots) sent given entries s.order
       (agreed-changed id slots sent given entries (λ _. Waiting 2) s.order.key.stan w
-      (λ x stage v there is undo. absurd (none-some v (ap (undo_of x.order) (same_stage (Waiting n) stage (sym role ∙ ap (λ (y : Slot). y.role) (some_is s x (sym here ∙ there)) ∙ is)) ∙ undo)))
+      (λ x stage v there is undo. absurd (none-some v (ap (undo_of x.order) (same_stage (Waiting n) stage (sym role ∙ ap (λ (y : Slot). y.role) (same_Some s x (sym here ∙ there)) ∙ is)) ∙ undo)))
       (λ x stage there is h. tt) (λ x stage v there is undo. absurd (none-some v undo)))
       (order-changed (λ _. Waiting 2) s.order.key.stan slots s.order.key.stan ∙ ap (option_map (λ (x : Slot). x.order)) here)
 

@@ -7,7 +7,6 @@ use Rattle.iso_order.specs.declared.key.TxKey.{TxKey}
 use Rattle.iso_order.specs.Pan.{AccountNumber, is_pan}
 use Rattle.iso_order.specs.Key.{same_key, is_valid_key}
 use Rattle.iso_order.specs.Order.{Instruction, is_valid}
-use Rattle.iso_order.proofs.Lists.{all-push}
 use Rattle.iso_acquirer.specs.declared.fault.AcqFault.{AcqFault}
 use Rattle.iso_acquirer.specs.declared.fault.AcqFault.TheVariants.{NoMoreTrace, NoSuch, Closed}
 use Rattle.iso_acquirer.specs.declared.slot.Slot.{Slot}
@@ -16,6 +15,7 @@ use Rattle.iso_acquirer.specs.declared.slot.Role.TheVariants.{Transaction, Rever
 use Rattle.iso_acquirer.specs.declared.slot.Stage.{Stage}
 use Rattle.iso_acquirer.specs.declared.slot.Stage.TheVariants.{Waiting, Reversing, Approved, Declined, Reversed}
 use Rattle.iso_acquirer.specs.Acquirer.{Party, slot_at, order_at, slots_at_stage, stage_after, stage_after_undo, slots_after_answer, slots_after_answer_in_role, slots_after_answer_of_slot, timeout, timeout_of_slot, timeout_in_role, timeout_at_stage, reversal_under, next_reversal, reversal_for, slots_with, slots_with_reversal, transaction_of, debit_of, IsFair}
+use Rattle.iso_acquirer.proofs.Lists.{all-push}
 use Rattle.iso_acquirer.proofs.Numbered.{all-changed, all-found}
 use Rattle.iso_acquirer.proofs.Made.{debit-valid, reversal-fits}
 use Rattle.iso_acquirer.proofs.Clauses.{slot_of_order}

@@ -26,21 +26,6 @@ pub record SoFar (accounts : List Account) (count : ℕ) (b : Books) (file rest 
   pub goes_back : (n : ℕ) → AreWritten accounts 999999 [] (take (count + n) (records_of file)) → AreWritten accounts 999999 b.orders (take n (records_of rest))
   pub clear_is : is_clear file ≡ is_clear rest
 
-pub starts : (accounts : List Account) (b : Books) (file : List ℕ) → b.orders ≡ [] → SoFar accounts 0 b file file
-starts accounts b file none = record {
-  count_is = omega arith;
-  orders_are = ap (λ (os : List Instruction). os ++ orders_of (records_of file)) none;
-  goes_on = λ n all.
-      let at : n ≡ 0 + n = omega arith in
-      subst (λ m. AreWritten accounts 999999 [] (take m (records_of file))) at
-      (subst (λ (os : List Instruction). AreWritten accounts 999999 os (take n (records_of file))) none all);
-  goes_back = λ n all.
-      let at : 0 + n ≡ n = omega arith in
-      subst (λ (os : List Instruction). AreWritten accounts 999999 os (take n (records_of file))) (sym none)
-      (subst (λ m. AreWritten accounts 999999 [] (take m (records_of file))) at all);
-  clear_is = refl;
-}
-
 -- the issuer keeps its accounts and its limit
 pub record IsOf (accounts : List Account) (b : Books) : Type 0 where
   pub accounts_are : b.accounts ≡ accounts

@@ -1,5 +1,5 @@
 -- The record at the front of a file.
-use Rattle.std.proofs.Common.{◌≡◌, ◌∙◌, ◌≤◌, ◌<◌, ℕ, zero, suc, ◌+◌, ◌*◌, ◌/◌, Bool, true, false, refl, sym, ap, subst, arith, List, [], ◌∷◌, ◌++◌, length, take, drop, Option, Some, None, IfSome, length-drop, length-append, drop-drop}
+use Rattle.std.proofs.Common.{◌≡◌, ◌∙◌, ◌≤◌, ℕ, zero, suc, ◌+◌, ◌*◌, ◌/◌, Bool, true, false, refl, sym, ap, subst, arith, List, [], ◌∷◌, ◌++◌, length, take, drop, Option, Some, None, IfSome, length-drop, length-append, drop-drop}
 use Rattle.std.proofs.lemmas.List.{take-append-le}
 use Rattle.std.specs.Prelude.{if◌then◌else◌}
 use Rattle.std.specs.List.{list_all}
@@ -41,18 +41,10 @@ no_record file long torn =
     ap (λ n. records_from n 0 file) size
     ∙ ap (λ (w : Bool). if w then take 128 file ∷ records_from (length rest / 128) 1 file else []) torn
 
-pub short_record : (file : List ℕ) → length file < 128 → records_of file ≡ []
-short_record file short =
-    let size : length file / 128 ≡ 0 = omega (arith, short) in
-    ap (λ n. records_from n 0 file) size
-
 pub clear_alone : (file : List ℕ) → records_of file ≡ [] → is_clear file ≡ list_all is_zero file
 clear_alone file none =
     let at : 128 * length (records_of file) ≡ 0 = omega (arith, ap length none) in
     ap (λ n. list_all is_zero (drop n file)) at
-
-pub nothing_front : (file : List ℕ) → length file < 128 → FrontIs None file
-nothing_front file short = let none = short_record file short in (none, clear_alone file none)
 
 front_by : (file : List ℕ) → 128 ≤ length file → (whole : Bool) → is_whole (take 128 file) ≡ whole → FrontIs (if whole then Some (take 128 file) else None) file
 front_by file long true is =
@@ -76,7 +68,3 @@ front_held held found (Some all) long is front =
     let all_long : 128 ≤ length all = omega (arith, long, ap length front.1, length-append held front.0) in
     let told : found ≡ first_of all = is ∙ ap (λ (b : List ℕ). if is_whole b then Some b else None) (sym same) in
     subst (λ (o : Option (List ℕ)). FrontIs o all) (sym told) (front_is all all_long)
-
-pub front_short : (ahead : Option (List ℕ)) → IfSome ahead (λ all. length all < 128) → IfSome ahead (FrontIs None)
-front_short None short = tt
-front_short (Some all) short = nothing_front all short

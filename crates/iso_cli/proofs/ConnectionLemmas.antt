@@ -77,12 +77,6 @@ told_off before after ended status (inr failed) some = failed
 
 -- ---- at the end
 
--- all were served and told
-pub serves_all : (t : Layout) (before after : Port) (count served : ℕ) → served ≡ count → SoFar t before after served → Serves t before after count 0
-serves_all t before after count served same so_far =
-    let going = subst (λ (n : ℕ). SoFar t before after n) same so_far in
-    record { connections = going.connections; one_journal = going.one_journal; outcome = inl (refl, going.tells_all) }
-
 -- the last one was served, and not told
 pub serves_some : BodiesGoOn → (t : Layout) (before now after : Port) (count served : ℕ) (ended : Result Report ServeFault) (status : ℕ)
     → SoFar t before now served → served < count → IsConnection t now.books after.books ended → status ≡ 3 → Serves t before after count status

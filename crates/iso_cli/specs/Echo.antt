@@ -1,5 +1,5 @@
 -- What the echo writes.
-use Rattle.std.specs.Prelude.{◌≡◌, ℕ, ◌≤◌, false, List, [], ◌∷◌, ◌++◌, length, take, Option, IfSome, codes}
+use Rattle.std.specs.Prelude.{◌≡◌, ℕ, ◌≤◌, false, List, ◌++◌, length, take, Option, IfSome, codes}
 use Rattle.std.specs.Io.KnownBytes.{Appends}
 use Rattle.iso_parts.specs.declared.digits.Digits.TheVariants.{Ascii}
 use Rattle.iso_table.specs.Layout.{Layout}
@@ -25,7 +25,7 @@ Answers t m b = AnswersBy t m (verdict m) b
 
 -- the line of an answer
 abbrev pub answer_line : List ℕ → List ℕ
-answer_line b = codes "ANSWER=" ++ b ++ 10 ∷ []
+answer_line b = codes "ANSWER=" ++ b ++ codes "\n"
 
 -- the bytes begin with a message, and what is written of it is its lines, with what a bystander shouldn't read hidden, and
 -- then its answer

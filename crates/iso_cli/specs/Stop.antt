@@ -1,5 +1,5 @@
 -- How each way to stop is told.
-use Rattle.std.specs.Prelude.{ℕ, List, [], ◌∷◌, ◌++◌, Option, Some, None, option_map, unwrap_or, codes}
+use Rattle.std.specs.Prelude.{ℕ, List, [], ◌++◌, Option, Some, None, option_map, unwrap_or, codes}
 use Rattle.std.specs.Fmt.{decimal}
 use Rattle.iso_table.specs.FaultNames.{table_fault_name, table_fault_element, host_table_fault_name, host_table_fault_element}
 use Rattle.iso_wire.specs.FaultNames.{unpack_cause_name, pack_fault_name, pack_fault_element}
@@ -62,7 +62,7 @@ stop_text (Pack fault) = None
 
 -- the fault line: the text, and one newline
 abbrev pub stop_line : Stop → Option (List ℕ)
-stop_line stop = option_map (λ text. text ++ 10 ∷ []) (stop_text stop)
+stop_line stop = option_map (λ text. text ++ codes "\n") (stop_text stop)
 
 -- the end of a line, with the element that is named
 abbrev pub element_end : Option ℕ → List ℕ

@@ -1,25 +1,28 @@
 -- One frame more at the front of bytes.
-use Rattle.std.proofs.Common.{◌≡◌, ◌∙◌, ◌++◌, ℕ, ◌+◌, ◌-◌, ◌<◌, ◌≤◌, refl, sym, ap, subst, arith, List, [], ◌∷◌, length, drop, length-append, lit<}
-use Rattle.std.proofs.Math.Seq.{drop-append_seam}
+use Rattle.std.proofs.Common.{◌≡◌, ◌∙◌, ◌++◌, ℕ, ◌+◌, ◌<◌, ◌≤◌, refl, sym, ap, subst, arith, List, [], ◌∷◌, length, drop, append_assoc, append-nil, length-append, lit<}
 use Rattle.iso_wire.specs.declared.header.Header.{Header}
 use Rattle.iso_wire.specs.declared.header.Header.TheVariants.{Binary2, Ascii4, Bcd2}
-use Rattle.iso_wire.specs.Framing.{header_of, frame_of, frames_of, AllFit, Begins, NoFrame}
-use Rattle.iso_wire.proofs.FrameSplits.{fit_more, frames_more}
-use Rattle.iso_compare.specs.Fronts.{IsFront}
+use Rattle.iso_wire.specs.FrameLaws.{FrameLaws}
+use Rattle.iso_wire.specs.Framing.{header_of, frame_of, frames_of, AllFit, Begins}
 
 -- the bytes are the frames of these bodies, and then others
 pub record BeginWith (h : Header) (bytes : List ℕ) (bodies : List (List ℕ)) (rest : List ℕ) : Type 0 where
   pub joined : bytes ≡ frames_of h bodies ++ rest
   pub fit : AllFit h bodies
 
-pub one_more : (h : Header) (bytes : List ℕ) (old new : List (List ℕ)) (rest body behind : List ℕ) (used : ℕ) → BeginWith h bytes old rest
+frames_more : FrameLaws → (h : Header) (bodies : List (List ℕ)) (body rest : List ℕ) → frames_of h (bodies ++ body ∷ []) ++ rest ≡ frames_of h bodies ++ (frame_of h body ++ rest)
+frames_more laws h bodies body rest =
+    ap (λ (l : List ℕ). l ++ rest) (laws.joined h bodies (body ∷ [])) ∙ append_assoc (frames_of h bodies) (frame_of h body ++ []) rest
+    ∙ ap (λ (l : List ℕ). frames_of h bodies ++ (l ++ rest)) (append-nil (frame_of h body))
+
+pub one_more : FrameLaws → (h : Header) (bytes : List ℕ) (old new : List (List ℕ)) (rest body behind : List ℕ) (used : ℕ) → BeginWith h bytes old rest
     → Begins h rest body used → behind ≡ drop used rest → new ≡ old ++ body ∷ [] → BeginWith h bytes new behind
-one_more h bytes old new rest body behind used so_far front is grown =
+one_more laws h bytes old new rest body behind used so_far front is grown =
     subst (λ (l : List (List ℕ)). BeginWith h bytes l behind) (sym grown) (record {
       joined = so_far.joined
           ∙ ap (λ (l : List ℕ). frames_of h old ++ l) (front.whole ∙ ap (λ (l : List ℕ). frame_of h body ++ l) (sym is))
-          ∙ sym (frames_more h old body behind);
-      fit = fit_more h old body so_far.fit front.fits;
+          ∙ sym (frames_more laws h old body behind);
+      fit = laws.fit h old (body ∷ []) so_far.fit (front.fits, tt);
     })
 
 -- the bytes are so many frames, each of at least one byte, and then others
@@ -28,14 +31,6 @@ pub record Counted (h : Header) (bytes rest : List ℕ) (frames : ℕ) : Type 0 
   pub begin : BeginWith h bytes bodies rest
   pub count : frames ≡ length bodies
   pub small : frames + length rest ≤ length bytes
-
-pub none_counted : (h : Header) (bytes : List ℕ) → Counted h bytes bytes 0
-none_counted h bytes = record {
-  bodies = [];
-  begin = record { joined = refl; fit = tt };
-  count = refl;
-  small = omega arith;
-}
 
 header_some : (h : Header) (n : ℕ) → 0 < length (header_of h n)
 header_some Binary2 n = lit< tt
@@ -51,37 +46,12 @@ shorter h rest body used front =
     ap length front.whole ∙ length-append (frame_of h body) (drop used rest) in
     omega arith
 
-pub one_counted : (h : Header) (bytes rest body behind : List ℕ) (used frames : ℕ) → Counted h bytes rest frames → Begins h rest body used
+pub one_counted : FrameLaws → (h : Header) (bytes rest body behind : List ℕ) (used frames : ℕ) → Counted h bytes rest frames → Begins h rest body used
     → behind ≡ drop used rest → Counted h bytes behind (frames + 1)
-one_counted h bytes rest body behind used frames so_far front is =
+one_counted laws h bytes rest body behind used frames so_far front is =
     let less : length behind < length rest = rw is (shorter h rest body used front) in record {
       bodies = so_far.bodies ++ body ∷ [];
-      begin = one_more h bytes so_far.bodies (so_far.bodies ++ body ∷ []) rest body behind used so_far.begin front is refl;
+      begin = one_more laws h bytes so_far.bodies (so_far.bodies ++ body ∷ []) rest body behind used so_far.begin front is refl;
       count = ap (λ (n : ℕ). n + 1) so_far.count ∙ sym (length-append so_far.bodies (body ∷ []));
       small = let small = so_far.small in omega arith;
-    }
-
--- the bytes behind others are the last ones
-pub last_ones : (front rest : List ℕ) → drop (length (front ++ rest) - length rest) (front ++ rest) ≡ rest
-last_ones front rest =
-    let size : length (front ++ rest) - length rest ≡ length front = omega (arith, length-append front rest) in
-    rw size (drop-append_seam front rest)
-
-pub front_of : (h : Header) (bytes rest : List ℕ) (frames size : ℕ) → Counted h bytes rest frames → NoFrame h rest → size ≡ length bytes - length rest
-    → IsFront h bytes (record { frames = frames; size = size })
-front_of h bytes rest frames size counted none is =
-    let all : List ℕ = frames_of h counted.bodies in
-    let P : List ℕ → Type 0 = λ b. drop (length b - length rest) b ≡ rest in
-    let last : drop size bytes ≡ rest = ap (λ (n : ℕ). drop n bytes) is ∙ subst P (sym counted.begin.joined) (last_ones all rest) in
-    let small = counted.small in
-    record {
-      bodies = counted.bodies;
-      splits = record {
-        joined = counted.begin.joined ∙ ap (λ (l : List ℕ). all ++ l) (sym last);
-        fit = counted.begin.fit;
-        partial = subst (NoFrame h) (sym last) none;
-      };
-      count = counted.count;
-      within = omega arith;
-      small = omega arith;
     }

@@ -4,7 +4,7 @@ ghost use Rattle.std.specs.Prelude.{◌≡◌, IfOk, map};
 ghost use Rattle.iso_compare.specs.Fronts.{IsFront};
 ghost use Rattle.iso_wire.specs.Framing.{Splits};
 
-use iso_wire::laws::splits_once;
+use iso_wire::laws::{frames, splits_once};
 use iso_wire::{Framed, Header, unframe};
 use std::alloc::{AllocError, Global};
 
@@ -28,6 +28,7 @@ pub fn split_frames<'a>(
     ensures { IfOk result
         (λ split. Splits header bytes.now (map (λ b. b.now) split.bodies.items) split.rest.now) }
 {
+    frames();
     splits_once();
     let mut bodies = Vec::new(alloc);
     let mut rest = bytes;
@@ -53,6 +54,7 @@ pub fn count_frames(header: Header, bytes: &[u8]) -> Front
     // So many whole frames, of so many bytes, stand in front, and no whole frame follows them.
     ensures { IsFront header bytes.now result }
 {
+    frames();
     splits_once();
     let mut frames = 0;
     let mut rest = bytes;

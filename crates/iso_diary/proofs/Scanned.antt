@@ -1,12 +1,11 @@
 -- A diary's records, as they are read.
-use Rattle.std.proofs.Common.{◌≡◌, ◌∙◌, ℕ, suc, ◌+◌, ◌*◌, Bool, true, false, sym, ap, subst, arith, List, [], ◌∷◌, ◌++◌, length, take, drop}
+use Rattle.std.proofs.Common.{◌≡◌, ◌∙◌, ℕ, suc, ◌+◌, Bool, false, sym, ap, subst, arith, List, [], ◌∷◌, ◌++◌, length, take, drop}
 use Rattle.std.specs.Prelude.{nat_lt, Some}
-use Rattle.std.proofs.lemmas.List.{take_all}
+use Rattle.std.proofs.lemmas.List.{take_all, drop_all}
 use Rattle.sqlite_disk.specs.Disk.{Holds, Only}
 use Rattle.iso_log.specs.Slots.{records_of}
-use Rattle.iso_log.specs.Log.{IsFile, IsLog, IsLeft}
-use Rattle.iso_log.proofs.Crash.{count_is}
-use Rattle.iso_log.proofs.Recovered.{holds_slot}
+use Rattle.iso_log.specs.Log.{IsLog}
+use Rattle.iso_log.specs.FileLaws.{FileLaws, SlotLaws}
 use Rattle.iso_diary.specs.declared.heading.HeadingFault.{HeadingFault}
 use Rattle.iso_diary.specs.Heading.{heading_fault}
 use Rattle.iso_diary.specs.declared.error.OpenError.{OpenError}
@@ -15,8 +14,7 @@ use Rattle.iso_diary.specs.declared.line.Line.{Line}
 use Rattle.iso_diary.specs.Line.{line_bytes, line_in}
 use Rattle.iso_diary.specs.Notes.{note_of, note_or_nothing, notes_of, diary_notes}
 use Rattle.iso_diary.specs.Kept.{IsLineAt, AreLines}
-use Rattle.iso_diary.specs.Why.{IsWhy, IsOther, IsPlain, IsScanFault, other_heading}
-use Rattle.iso_log.proofs.Fronts.{none_pending}
+use Rattle.iso_diary.specs.Why.{IsWhy, IsScanFault, other_heading}
 
 -- the note of the bytes of a line
 pub note_is : (r : Line) (bytes : List ℕ) → bytes ≡ line_bytes r → line_in (line_bytes r) ≡ Some r
@@ -42,57 +40,25 @@ why_scan wanted file Memory h = tt
 why_scan wanted file Disk h = tt
 why_scan wanted file Unfit h = tt
 
-pub why_other : (wanted file : List ℕ) (e : OpenError) → IsOther wanted file e → IsWhy wanted file e
-why_other wanted file (Other fault) h = h
-why_other wanted file (Damaged place) h = absurd h
-why_other wanted file Memory h = tt
-why_other wanted file Disk h = tt
-why_other wanted file Unfit h = tt
-
-pub why_plain : (wanted file : List ℕ) (e : OpenError) → IsPlain e → IsWhy wanted file e
-why_plain wanted file (Other fault) h = absurd h
-why_plain wanted file (Damaged place) h = absurd h
-why_plain wanted file Memory h = tt
-why_plain wanted file Disk h = tt
-why_plain wanted file Unfit h = tt
-
-pub scan_plain : (records : List (List ℕ)) (e : OpenError) → IsPlain e → IsScanFault records e
-scan_plain records (Other fault) h = absurd h
-scan_plain records (Damaged place) h = absurd h
-scan_plain records Memory h = tt
-scan_plain records Disk h = tt
-scan_plain records Unfit h = tt
-
 -- ---- a log that was opened
 
-module _ {D : Type 0} (seen : D → List ℕ) (may_leave : D → List ℕ → Type 0) (is_usable : D → Bool) where
-  -- reading leaves a log
-  pub still_log : (d1 d2 : D) (slots count : ℕ) → IsLog seen may_leave is_usable (record { disk = d1; slots = slots; count = count; synced = count }) → seen d2 ≡ seen d1
-      → ((c : List ℕ) → may_leave d2 c → may_leave d1 c) → is_usable d2 ≡ true → IsLog seen may_leave is_usable (record { disk = d2; slots = slots; count = count; synced = count })
-  still_log d1 d2 slots count is same less usable = record {
-    usable = usable;
-    small = is.small;
-    file = subst (IsFile slots count) (sym same) is.file;
-    some = omega arith;
-    left = λ c here. subst (λ (f : List ℕ). IsLeft (128 * count) f c) (sym same) (is.left c (less c here));
-  }
+module _ (laws : FileLaws) {D : Type 0} (seen : D → List ℕ) (may_leave : D → List ℕ → Type 0) (is_usable : D → Bool)
+    (d : D) (slots count : ℕ) (is : IsLog seen may_leave is_usable (record { disk = d; slots = slots; count = count; synced = count })) where
+  long : count ≡ length (records_of (seen d))
+  long = laws.counted slots count (seen d) is.file
 
-  module _ (d : D) (slots count : ℕ) (is : IsLog seen may_leave is_usable (record { disk = d; slots = slots; count = count; synced = count })) where
-    long : count ≡ length (records_of (seen d))
-    long = count_is slots count (seen d) is.file
+  pub none_waits : notes_of (drop count (records_of (seen d))) ≡ []
+  none_waits = ap notes_of (drop_all count (records_of (seen d)) (omega (arith, long)))
 
-    pub none_waits : notes_of (drop count (records_of (seen d))) ≡ []
-    none_waits = none_pending note_of seen (record { disk = d; slots = slots; count = count; synced = count }) long
-
-    pub all_synced : diary_notes (records_of (seen d)) ≡ diary_notes (take count (records_of (seen d)))
-    all_synced = sym (ap diary_notes (take_all count (records_of (seen d)) (omega (arith, long))))
+  pub all_synced : diary_notes (records_of (seen d)) ≡ diary_notes (take count (records_of (seen d)))
+  all_synced = sym (ap diary_notes (take_all count (records_of (seen d)) (omega (arith, long))))
 
 -- ---- the heading
 
 -- what was read in front of a file
-pub first_other : (wanted file bytes : List ℕ) (fault : HeadingFault) → length bytes ≡ 128 → Holds file 0 bytes → heading_fault bytes wanted ≡ Some fault → other_heading wanted file ≡ Some fault
-first_other wanted file bytes fault long holds is =
-    let front : take 128 file ≡ bytes = holds_slot file bytes 0 long holds in
+pub first_other : SlotLaws → (wanted file bytes : List ℕ) (fault : HeadingFault) → length bytes ≡ 128 → Holds file 0 bytes → heading_fault bytes wanted ≡ Some fault → other_heading wanted file ≡ Some fault
+first_other laws wanted file bytes fault long holds is =
+    let front : take 128 file ≡ bytes = sym (laws.same_slot 1 0 bytes file long holds 0 (omega arith)) ∙ take_all 128 bytes (omega (arith, long)) in
     let enough : nat_lt (length file) 128 ≡ false = grind (arith, holds.within, long) in
     rw enough (ap (λ (l : List ℕ). heading_fault l wanted) front ∙ is)
 

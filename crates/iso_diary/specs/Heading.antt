@@ -15,7 +15,7 @@ magic = codes "ISO 8583 ACQUIRER DIARY "
 -- the record of a heading
 unfoldable pub heading_bytes : Head → List ℕ
 heading_bytes h = magic
-    ++ (decimal 4 1 ++ (decimal 5 h.rules ++ (decimal 11 h.acquirer ++ (blanks 83 ++ 10 ∷ []))))
+    ++ (decimal 4 1 ++ (decimal 5 h.rules ++ (decimal 11 h.acquirer ++ (blanks 83 ++ codes "\n"))))
 
 -- what a first record tells otherwise than the one that is wanted, looked at from the front
 abbrev pub heading_fault : List ℕ → List ℕ → Option HeadingFault

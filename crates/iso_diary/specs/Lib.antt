@@ -1,3 +1,4 @@
+pub mod Fronts
 pub mod Heading
 pub mod Kept
 pub mod Line

@@ -8,7 +8,7 @@
 -- 100  20  the place in the diary
 -- 120   7  blanks
 -- 127   1  the end of the line
-use Rattle.std.specs.Prelude.{◌≡◌, ℕ, ◌+◌, ◌*◌, ◌/◌, ◌%◌, ◌^◌, ◌<◌, ◌==◌, nat_lt, true, List, [], ◌∷◌, ◌++◌, take, slice_index, bytes_eq, Option, Some, None, if◌then◌else◌}
+use Rattle.std.specs.Prelude.{◌≡◌, ℕ, ◌+◌, ◌*◌, ◌/◌, ◌%◌, ◌^◌, ◌<◌, ◌==◌, nat_lt, true, List, [], ◌∷◌, ◌++◌, take, slice_index, bytes_eq, codes, Option, Some, None, if◌then◌else◌}
 use Rattle.iso_wire.specs.Decimal.{decimal}
 use Rattle.iso_log.specs.Slots.{is_whole}
 use Rattle.iso_order.specs.declared.key.TxKey.{TxKey}
@@ -38,7 +38,7 @@ body (Begun o) = order_bytes o
 body (TimedOut stan) = decimal 10 stan ++ blanks 89
 body (Told k code) = answered_bytes k code
 
--- what happened, by a letter
+-- what happened, by a letter: B for begun, T for timed out, A for answered
 abbrev pub letter : Note → ℕ
 letter (Begun o) = 66
 letter (TimedOut stan) = 84
@@ -46,7 +46,7 @@ letter (Told k code) = 65
 
 -- the letter and the place, in the 29 bytes behind it
 unfoldable pub tail : ℕ → ℕ → List ℕ
-tail c place = c ∷ [] ++ (long_digits place ++ (blanks 7 ++ 10 ∷ []))
+tail c place = c ∷ [] ++ (long_digits place ++ (blanks 7 ++ codes "\n"))
 
 -- a note and its place, in 128 bytes
 unfoldable pub line_bytes : Line → List ℕ

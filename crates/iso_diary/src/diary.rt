@@ -4,12 +4,13 @@ ghost use Rattle.iso_log.specs.Headed.{IsReady};
 ghost use Rattle.iso_log.specs.Slots.{records_of};
 ghost use Rattle.iso_restarts.specs.Front.{LeavesFront};
 ghost use Rattle.iso_diary.specs.Line.{line_bytes};
-ghost use Rattle.iso_diary.specs.Notes.{note_of, synced_notes, pending_notes, LeavesNotes};
-ghost use Rattle.iso_log.proofs.Fronts.{ready_leaves};
+ghost use Rattle.iso_diary.specs.Notes.{synced_notes, pending_notes, LeavesNotes};
+ghost use Rattle.iso_diary.specs.Fronts.{ready_leaves};
 
 use crate::laws::lines_come_back;
 use crate::line::Line;
 use crate::writing::line_bytes;
+use iso_log::laws::headed_logs;
 use iso_log::{LogError, RecordLog};
 use iso_restarts::{LogFailed, Note, NoteLog};
 use sqlite_disk::Disk;
@@ -56,6 +57,7 @@ impl<D: Disk + Drop> DiaryLog<D> {
             → LeavesFront (LeavesNotes D.may_leave self.new.log) (synced_notes D.seen self.old.log)
             (pending_notes D.seen self.old.log) }
     {
+        headed_logs::<D, Note>();
         match self.log.grow(more) {
             Ok(()) => Ok(()),
             Err(error) => Err(error),
@@ -75,6 +77,7 @@ impl<D: Disk + Drop> DiaryLog<D> {
             → LeavesFront (LeavesNotes D.may_leave self.new.log) (synced_notes D.seen self.old.log)
             (pending_notes D.seen self.old.log) }
     {
+        headed_logs::<D, Note>();
         match self.log.sync() {
             Ok(()) => Ok(()),
             Err(_) => Err(LogFailed),
@@ -115,6 +118,7 @@ impl<D: Disk + Drop> NoteLog for DiaryLog<D> {
             ++ line_bytes (record { place = self.old.log.count; note = note }) ∷ []) }
     {
         lines_come_back();
+        headed_logs::<D, Note>();
         let place = self.log.count as u64;
         let bytes = line_bytes(&Line { place, note });
         match self.log.append(&bytes) {
@@ -135,5 +139,5 @@ impl<D: Disk + Drop> NoteLog for DiaryLog<D> {
         }
     }
 
-    ghost leaves_front = { λ l is notes left. ready_leaves note_of l.log is notes left };
+    ghost leaves_front = { λ l is notes left. ready_leaves l.log is notes left };
 }

@@ -12,7 +12,9 @@ use crate::diary::DiaryLog;
 use crate::error::OpenError;
 use crate::heading::Heading;
 use crate::opening::{Opened, open};
+use iso_record::laws::{columns, rows_are_whole, rows_come_back};
 use iso_restarts::DurableAcquirer;
+use iso_wire::laws::decimals;
 use sqlite_disk::Disk;
 use std::alloc::Global;
 
@@ -20,13 +22,23 @@ use std::alloc::Global;
 pub fn lines_come_back()
     // The record of each note and place that the code can hold is read as that note at that place.
     ensures { LinesComeBack }
-{}
+{
+    decimals();
+    columns();
+    rows_come_back();
+    rows_are_whole();
+}
 
 /// Each record is whole.
 pub fn lines_are_whole()
     // The record of each note and place that the code can hold has 128 bytes, none of them zero.
     ensures { LinesAreWhole }
-{}
+{
+    decimals();
+    columns();
+    rows_come_back();
+    rows_are_whole();
+}
 
 /// Nothing else is a record.
 pub fn nothing_else()
@@ -38,18 +50,27 @@ pub fn nothing_else()
 pub fn headings_are_whole()
     // The record of each heading has 128 bytes, none of them zero.
     ensures { HeadingsAreWhole }
-{}
+{
+    decimals();
+    columns();
+}
 
 /// Two headings have two records.
 pub fn headings_differ()
     // Headings that have the same record are the same, where acquirers have at most 11 digits.
     ensures { HeadingsDiffer }
-{}
+{
+    decimals();
+    columns();
+}
 
 /// Of two headings it is told that their rules differ, or, where those are the same, that their acquirers do.
 pub fn headings_are_told_apart()
     ensures { HeadingsAreToldApart }
-{}
+{
+    decimals();
+    columns();
+}
 
 /// Opens a diary. Where its disk holds what a crash of an acquirer may leave, its notes are what a crash may leave of that
 /// acquirer: the synced ones, and of those behind them some from the front.

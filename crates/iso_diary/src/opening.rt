@@ -13,6 +13,7 @@ use crate::diary::DiaryLog;
 use crate::error::OpenError;
 use crate::heading::{Heading, HeadingFault, heading_fault};
 use crate::scanning::scan;
+use iso_log::laws::{files, slots};
 use iso_log::{RECORD, RecordLog, recover};
 use iso_restarts::Note;
 use sqlite_disk::Disk;
@@ -44,6 +45,7 @@ fn check_heading<D: Disk>(disk: &mut D, heading: &Heading) -> Result<(), OpenErr
     ensures seen { D.seen disk.new ≡ D.seen disk.old }
     ensures crash { (c : List ℕ) → D.may_leave disk.new c → D.may_leave disk.old c }
 {
+    slots();
     if !disk.may_be_used() {
         return Err(OpenError::Disk);
     }
@@ -146,6 +148,7 @@ pub fn open<D: Disk + Drop>(
         → Only (D.seen disk) (D.may_leave disk)
         → (c : List ℕ) → D.may_leave e.1 c → records_of c ≡ records_of (D.seen disk)) }
 {
+    files();
     match load(alloc, &mut disk, heading, group) {
         Ok(loaded) => {
             let log = RecordLog {

@@ -9,6 +9,7 @@ ghost use Rattle.iso_diary.specs.Why.{IsPlain, IsScanFault};
 use crate::error::OpenError;
 use crate::reading::read_line;
 use iso_log::RECORD;
+use iso_log::laws::{files, slots};
 use iso_restarts::Note;
 use sqlite_disk::Disk;
 use std::alloc::Global;
@@ -71,6 +72,7 @@ fn scan_piece(notes: &mut Vec<Note>, piece: &[u8], first: usize) -> Result<usize
         → notes.new.items ≡ notes.old.items ++ notes_of (slots_from n 0 piece.now)) }
     ensures fault { IfErr result (λ e. IsPlain e) }
 {
+    slots();
     let count = piece.len() / RECORD;
     for place in 0..count {
         let record = record_at(piece, place);
@@ -105,6 +107,7 @@ fn scan_some<D: Disk>(
     ensures crash { (c : List ℕ) → D.may_leave disk.new c → D.may_leave disk.old c }
     ensures usable { IsTrue (D.is_usable disk.new) }
 {
+    slots();
     let mut buffer = [0; PIECE_BYTES];
     let piece = &mut buffer[..RECORD * count];
     let Ok(()) = disk.read_at(RECORD * place, piece) else {
@@ -137,6 +140,7 @@ pub(crate) fn scan<D: Disk>(
     ensures crash { (c : List ℕ) → D.may_leave disk.new c → D.may_leave disk.old c }
     ensures usable { IsTrue (D.is_usable disk.new) }
 {
+    files();
     let mut notes = Vec::new(alloc);
     let mut place = 1;
     while place < count {

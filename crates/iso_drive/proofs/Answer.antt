@@ -1,10 +1,10 @@
 -- What an answer comes to.
-use Rattle.std.proofs.Common.{◌≡◌, ℕ, Bool, true, false, refl, arith, ap, sym, ◌∙◌, List, ◌-◌, cond, inl, inr, subst}
-use Rattle.std.specs.Prelude.{◌==◌, ◌||◌, not, Option, Some, None, option_map}
+use Rattle.std.proofs.Common.{◌≡◌, ℕ, zero, suc, Bool, true, false, refl, arith, ap, sym, ◌∙◌, List, [], ◌∷◌, ◌-◌, cond, slice_set, inl, inr, subst}
+use Rattle.std.specs.Prelude.{◌==◌, ◌||◌, not, Option, Some, None, option_map, slice_get}
+use Rattle.std.proofs.lemmas.Bool.{both_ways, eqb-true, eqb-false}
+use Rattle.std.proofs.lemmas.Option.{same_Some}
 use Rattle.iso_order.specs.declared.key.TxKey.{TxKey}
 use Rattle.iso_order.specs.Key.{same_key}
-use Rattle.iso_order.proofs.Lists.{some_is}
-use Rattle.iso_order.proofs.Plain.{same_number, unlike, clash}
 use Rattle.iso_acquirer.specs.declared.slot.Slot.{Slot}
 use Rattle.iso_acquirer.specs.declared.slot.Role.{Role as Part}
 use Rattle.iso_acquirer.specs.declared.slot.Role.TheVariants.{Transaction, Reversal}
@@ -14,14 +14,12 @@ use Rattle.iso_acquirer.specs.declared.state.State.{State}
 use Rattle.iso_acquirer.specs.declared.state.State.TheVariants.{Waiting, Reversing, Approved, Declined, Reversed}
 use Rattle.iso_acquirer.specs.Acquirer.{slot_at, state_of, state_in_role, state_at_stage, on_stage, slot_at_stage, slots_at_stage, stage_after, stage_after_undo, slots_after_answer, slots_after_answer_of_slot, slots_after_answer_in_role}
 use Rattle.iso_acquirer.specs.Agreement.{is_closed}
-use Rattle.iso_acquirer.proofs.Numbered.{unchanged}
 use Rattle.iso_drive.specs.declared.made.Made.{Made}
 use Rattle.iso_drive.specs.declared.made.Role.TheVariants.{Payment, Reversal as Undone}
-use Rattle.iso_drive.specs.Answered.{has_key, is_made, Closes, ChangesNothing, ComesTo}
+use Rattle.iso_drive.specs.Answered.{has_key, is_made, Closes, ComesTo}
 use Rattle.iso_drive.specs.Made.{made_of, role_of, AreInRow, own_end, undo_end, undo_end_in, undo_end_at, told_by, IsTabled}
 use Rattle.iso_drive.specs.Open.{is_open, is_open_at}
-use Rattle.iso_drive.proofs.Plain.{set-same}
-use Rattle.iso_drive.proofs.Row.{placed, written, found}
+use Rattle.iso_drive.proofs.Row.{placed, unchanged, written, found}
 use Rattle.iso_drive.proofs.Opened.{state-found, state-other, state-same, state-none, answer-shape}
 
 -- ---- an answer that closes a transaction changes its stage
@@ -30,7 +28,7 @@ pub closes-step : (slots : List Slot) (key : TxKey) (code stan : ℕ) (state : S
     (step : Stage → Stage) × (slots_after_answer slots key code ≡ slots_at_stage step stan slots)
 closes-step slots key code stan state h =
     elim (answer-shape slots key code) [
-      | inl e ↦ absurd (clash (is_open_at slots stan) h.was_open (ap (λ (l : List Slot). is_open_at l stan) (sym e) ∙ shut))
+      | inl e ↦ absurd (both_ways (is_open_at slots stan) (ap (λ (l : List Slot). is_open_at l stan) (sym e) ∙ shut) h.was_open)
       | inr e ↦ (e.0, e.2 ∙ by_test e.0 e.1 e.2 (e.1 == stan) refl)
     ]
   where
@@ -38,10 +36,10 @@ closes-step slots key code stan state h =
     shut = ap is_open h.now ∙ ap not h.closed
 
     by_test : (step : Stage → Stage) (m : ℕ) → slots_after_answer slots key code ≡ slots_at_stage step m slots → (b : Bool) → (m == stan) ≡ b → slots_at_stage step m slots ≡ slots_at_stage step stan slots
-    by_test step m e true t = ap (λ k. slots_at_stage step k slots) (same_number m stan t)
+    by_test step m e true t = ap (λ k. slots_at_stage step k slots) (eqb-true m stan t)
     by_test step m e false t =
-        absurd (clash (is_open_at slots stan) h.was_open
-        (sym (ap is_open (state-other step m slots stan (unlike m stan t))) ∙ ap (λ (l : List Slot). is_open_at l stan) (sym e) ∙ shut))
+        absurd (both_ways (is_open_at slots stan)
+        (sym (ap is_open (state-other step m slots stan (eqb-false m stan t))) ∙ ap (λ (l : List Slot). is_open_at l stan) (sym e) ∙ shut) h.was_open)
 
 -- an open transaction is kept
 pub open-found : (slots : List Slot) (stan : ℕ) → is_open_at slots stan ≡ true → (s : Slot) × (stage : Stage) × (slot_at slots stan ≡ Some s) × (s.role ≡ Transaction stage)
@@ -49,10 +47,10 @@ open-found slots stan h = at (slot_at slots stan) refl
   where
     by_role : (s : Slot) → slot_at slots stan ≡ Some s → (role : Part) → s.role ≡ role → (s : Slot) × (stage : Stage) × (slot_at slots stan ≡ Some s) × (s.role ≡ Transaction stage)
     by_role s there (Transaction stage) is = (s, stage, there, is)
-    by_role s there (Reversal k) is = absurd (clash (is_open_at slots stan) h (ap is_open (state-found slots stan s there ∙ ap state_in_role is)))
+    by_role s there (Reversal k) is = absurd (both_ways (is_open_at slots stan) (ap is_open (state-found slots stan s there ∙ ap state_in_role is)) h)
 
     at : (f : Option Slot) → slot_at slots stan ≡ f → (s : Slot) × (stage : Stage) × (slot_at slots stan ≡ Some s) × (s.role ≡ Transaction stage)
-    at None e = absurd (clash (is_open_at slots stan) h (ap is_open (state-none slots stan e)))
+    at None e = absurd (both_ways (is_open_at slots stan) (ap is_open (state-none slots stan e)) h)
     at (Some s) e = by_role s e s.role refl
 
 -- which are open after it
@@ -62,14 +60,20 @@ open-closed slots key code stan state n h = go (n == stan) refl
   where
     go : (b : Bool) → (n == stan) ≡ b → is_open_at (slots_after_answer slots key code) n ≡ cond (n == stan) false (is_open_at slots n)
     go true t =
-        ap (is_open_at (slots_after_answer slots key code)) (same_number n stan t) ∙ ap is_open h.now ∙ ap not h.closed
+        ap (is_open_at (slots_after_answer slots key code)) (eqb-true n stan t) ∙ ap is_open h.now ∙ ap not h.closed
         ∙ sym (ap (λ b. cond b false (is_open_at slots n)) t)
     go false t =
         let to = closes-step slots key code stan state h in
-        ap (λ (l : List Slot). is_open_at l n) to.1 ∙ ap is_open (state-other to.0 stan slots n (λ e. unlike n stan t (sym e)))
+        ap (λ (l : List Slot). is_open_at l n) to.1 ∙ ap is_open (state-other to.0 stan slots n (λ e. eqb-false n stan t (sym e)))
         ∙ sym (ap (λ b. cond b false (is_open_at slots n)) t)
 
 -- ---- an answer that leaves its transaction as it is
+
+-- to write what stands there changes nothing
+set-same : {X : Type 0} (xs : List X) (i : ℕ) (x : X) → slice_get xs i ≡ Some x → slice_set xs i x ≡ xs
+set-same [] i x h = cc
+set-same (y ∷ ys) zero x h = let same : x ≡ y = cc in ap (λ z. z ∷ ys) same
+set-same (y ∷ ys) (suc i) x h = ap (λ zs. y ∷ zs) (set-same ys i x h)
 
 stays : (step : Stage → Stage) (slots : List Slot) (m : ℕ) (s : Slot) → AreInRow 1 slots → slot_at slots m ≡ Some s → slot_at_stage step s ≡ s → slots_at_stage step m slots ≡ slots
 stays step slots m s row there same =
@@ -137,15 +141,6 @@ module _ (slots : List Slot) (key : TxKey) (code : ℕ) (s : Slot) (row : AreInR
   undo-comes m is None at = (after (Reversal m) is ∙ unchanged (stage_after_undo code) slots m at, made-is)
   undo-comes m is (Some t) at = undo-role m is t at t.role refl
 
--- ---- an answer to no order of the acquirer's
-
-pub none-comes : (slots : List Slot) (key : TxKey) (code : ℕ) → slot_at slots key.stan ≡ None → ChangesNothing slots key code × (is_made slots key ≡ false)
-none-comes slots key code none = (ap (slots_after_answer_of_slot slots key code) none, ap (λ (f : Option Slot). has_key f key) none)
-
-pub other-comes : (slots : List Slot) (key : TxKey) (code : ℕ) (s : Slot) → slot_at slots key.stan ≡ Some s → same_key s.order.key key ≡ false → ChangesNothing slots key code × (is_made slots key ≡ false)
-other-comes slots key code s there other =
-    (ap (slots_after_answer_of_slot slots key code) there ∙ ap (λ b. cond b (slots_after_answer_in_role slots key.stan code s.role) slots) other, ap (λ (f : Option Slot). has_key f key) there ∙ other)
-
 -- ---- the orders as the driver has them, once an answer closed a transaction
 
 pub tabled-closed : (old new : List Made) (slots : List Slot) (key : TxKey) (code stan : ℕ) (state : State) → Closes slots key code stan state →
@@ -156,13 +151,13 @@ tabled-closed old new slots key code stan state h put =
     let to = closes-step slots key code stan state h in
     let ends : Some (state_at_stage (to.0 one.1)) ≡ Some state =
     sym (ap (λ r. state_in_role (on_stage to.0 r)) one.3) ∙ sym (state-same to.0 stan slots one.0 one.2) ∙ ap (λ (l : List Slot). state_of l stan) (sym to.1) ∙ h.now in
-    subst (IsTabled new) (sym to.1) (put one.0 one.1 to.0 one.2 one.3 (some_is (state_at_stage (to.0 one.1)) state ends))
+    subst (IsTabled new) (sym to.1) (put one.0 one.1 to.0 one.2 one.3 (same_Some (state_at_stage (to.0 one.1)) state ends))
 
 -- ---- what the driver makes of an answer, by the orders as it has them
 
 judged : (f : Option Slot) (m : Made) → Some m ≡ option_map made_of f → (s : Slot) × (f ≡ Some s) × (made_of s ≡ m)
 judged None m h = cc
-judged (Some s) m h = (s, refl, sym (some_is m (made_of s) h))
+judged (Some s) m h = (s, refl, sym (same_Some m (made_of s) h))
 
 payment : (role : Part) (state : State) → role_of role ≡ Payment state → (stage : Stage) × (role ≡ Transaction stage) × (state_at_stage stage ≡ state)
 payment (Transaction stage) state h = (stage, refl, cc)

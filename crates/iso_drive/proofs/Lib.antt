@@ -1,12 +1,11 @@
-pub mod Answer
-pub mod Boarded
-pub mod Closed
-pub mod Counted
-pub mod Doubts
-pub mod Driven
-pub mod Notes
-pub mod Opened
-pub mod Plain
-pub mod Row
-pub mod Tabled
-pub mod Woken
+mod Answer
+mod Boarded
+mod Closed
+mod Counted
+mod Doubts
+mod Driven
+mod Notes
+mod Opened
+mod Row
+mod Tabled
+mod Woken

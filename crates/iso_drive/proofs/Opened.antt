@@ -2,10 +2,10 @@
 use Rattle.std.proofs.Common.{◌≡◌, ◌≢◌, ℕ, Bool, true, false, refl, arith, ap, sym, ◌∙◌, List, [], ◌∷◌, ◌++◌, length, ◌+◌, cond, inl, inr}
 use Rattle.std.specs.Prelude.{◌==◌, ◌||◌, ◌⊎◌, not, Option, Some, None, option_and_then, nat_lt}
 use Rattle.std.specs.Option.{option_or}
+use Rattle.std.proofs.lemmas.Bool.{eqb-true, eqb-false}
 use Rattle.iso_order.specs.declared.key.TxKey.{TxKey}
 use Rattle.iso_order.specs.Key.{same_key}
 use Rattle.iso_order.specs.Order.{Instruction}
-use Rattle.iso_order.proofs.Plain.{same_number, unlike}
 use Rattle.iso_acquirer.specs.declared.slot.Slot.{Slot}
 use Rattle.iso_acquirer.specs.declared.slot.Role.{Role as Part}
 use Rattle.iso_acquirer.specs.declared.slot.Role.TheVariants.{Transaction, Reversal}
@@ -51,7 +51,7 @@ open-begun slots o n row next = go (slot_at slots n) refl (o.key.stan == n) refl
     go None h false e = rw (state-more slots (transaction_of o) n None h false e, state-none slots n h, e) refl
     go (Some s) h true e =
         let at = found slots 1 n s row h in
-        absurd (let is : o.key.stan ≡ n = same_number o.key.stan n e in omega (arith, at.2, next, is))
+        absurd (let is : o.key.stan ≡ n = eqb-true o.key.stan n e in omega (arith, at.2, next, is))
     go (Some s) h false e = rw (state-more slots (transaction_of o) n (Some s) h false e, state-found slots n s h, e) (or-none (is_open (state_in_role s.role)))
       where
         or-none : (b : Bool) → b ≡ (b || false)
@@ -74,11 +74,11 @@ open-step step m slots s stage n there is same = go (m == n) refl
   where
     go : (b : Bool) → (m == n) ≡ b → is_open_at (slots_at_stage step m slots) n ≡ is_open_at slots n
     go true e =
-        let at : m ≡ n = same_number m n e in
+        let at : m ≡ n = eqb-true m n e in
         let old : is_open_at slots m ≡ not (is_closed (state_at_stage stage)) = ap is_open (state-found slots m s there ∙ ap state_in_role is) in
         let new : is_open_at (slots_at_stage step m slots) m ≡ not (is_closed (state_at_stage (step stage))) = ap is_open (state-same step m slots s there ∙ ap (λ r. state_in_role (on_stage step r)) is) in
         ap (is_open_at (slots_at_stage step m slots)) (sym at) ∙ new ∙ sym (ap not same) ∙ sym old ∙ ap (is_open_at slots) at
-    go false e = ap is_open (state-other step m slots n (unlike m n e))
+    go false e = ap is_open (state-other step m slots n (eqb-false m n e))
 
 -- a time-out closes nothing, and begins nothing
 pub open-asked : (slots : List Slot) (m n : ℕ) → AreInRow 1 slots → is_open_at (slots_asked slots (timeout slots m)) n ≡ is_open_at slots n

@@ -1,15 +1,14 @@
 -- The orders as a driver has them, where the acquirer's change.
-use Rattle.std.proofs.Common.{◌≡◌, ◌≢◌, ℕ, suc, true, false, refl, arith, ap, sym, ◌∙◌, List, [], ◌∷◌, ◌++◌, length, ◌<◌, ◌+◌, ◌-◌, slice_set, subst}
-use Rattle.std.specs.Prelude.{Option, Some, None, slice_get, option_map, map, nat_lt}
-use Rattle.std.proofs.lemmas.Option.{slice_get-map}
-use Rattle.std.proofs.lemmas.List.{map-set, map-append, length-append}
+use Rattle.std.proofs.Common.{◌≡◌, ℕ, cond, refl, arith, ap, sym, ◌∙◌, List, [], ◌∷◌, ◌++◌, length, ◌<◌, ◌+◌, ◌-◌, slice_set, subst}
+use Rattle.std.specs.Prelude.{◌==◌, Option, Some, None, slice_get, option_map, map}
+use Rattle.std.proofs.lemmas.Bool.{eq-eqb}
+use Rattle.std.proofs.lemmas.Option.{same_Some, slice_get-map}
+use Rattle.std.proofs.lemmas.List.{map-set, map-append, length-append, length-map}
 use Rattle.iso_order.specs.declared.act.Act.{Act}
 use Rattle.iso_order.specs.declared.act.Act.TheVariants.{Debit}
 use Rattle.iso_order.specs.declared.act.Money.{Money}
 use Rattle.iso_order.specs.declared.key.TxKey.{TxKey}
 use Rattle.iso_order.specs.Order.{Instruction}
-use Rattle.iso_order.proofs.Lists.{some_is}
-use Rattle.iso_order.proofs.Plain.{number_self, other_number}
 use Rattle.iso_acquirer.specs.declared.slot.Slot.{Slot}
 use Rattle.iso_acquirer.specs.declared.slot.Role.{Role as Part}
 use Rattle.iso_acquirer.specs.declared.slot.Role.TheVariants.{Transaction, Reversal}
@@ -17,12 +16,10 @@ use Rattle.iso_acquirer.specs.declared.slot.Stage.{Stage}
 use Rattle.iso_acquirer.specs.declared.slot.Stage.TheVariants as phase
 use Rattle.iso_acquirer.specs.declared.state.State.{State}
 use Rattle.iso_acquirer.specs.declared.state.State.TheVariants.{Waiting}
-use Rattle.iso_acquirer.specs.Acquirer.{slot_at, state_at_stage, on_stage, slot_at_stage, slots_at_stage, timeout, timeout_of_slot, timeout_in_role, timeout_at_stage, next_reversal, slots_with_reversal, reversal_for, transaction_of}
-use Rattle.iso_acquirer.proofs.Numbered.{length-changed}
+use Rattle.iso_acquirer.specs.Acquirer.{slot_at, state_at_stage, on_stage, slot_at_stage, slots_at_stage, timeout, timeout_of_slot, timeout_in_role, timeout_at_stage, slots_with_reversal, reversal_for, transaction_of}
 use Rattle.iso_restarts.specs.Diary.{slots_asked}
 use Rattle.iso_drive.specs.declared.made.Made.{Made}
 use Rattle.iso_drive.specs.declared.made.Role.TheVariants.{Payment}
-use Rattle.iso_drive.specs.Counts.{is_waiting}
 use Rattle.iso_drive.specs.Made.{made_of, role_of, debit_in, IsTabled}
 use Rattle.iso_drive.proofs.Row.{placed, written, row-changed, row-push, found}
 
@@ -34,14 +31,13 @@ made-at made slots stan t some =
     ∙ slice_get-map made_of slots (stan - 1)
     ∙ ap (option_map made_of) (sym (placed slots 1 (stan - 1) stan t.in_row (omega arith)))
 
-length-made : (slots : List Slot) → length (map made_of slots) ≡ length slots
-length-made [] = refl
-length-made (s ∷ ss) = ap suc (length-made ss)
-
 pub made-length : (made : List Made) (slots : List Slot) → IsTabled made slots → length made ≡ length slots
-made-length made slots t = ap length t.same ∙ length-made slots
+made-length made slots t = ap length t.same ∙ length-map slots made_of
 
 -- ---- to change it
+
+pub length-changed : (step : Stage → Stage) (m : ℕ) (slots : List Slot) → length (slots_at_stage step m slots) ≡ length slots
+length-changed step m slots = length-map slots (λ (s : Slot). cond (s.order.key.stan == m) (slot_at_stage step s) s)
 
 pub made-stage : (step : Stage → Stage) (s : Slot) (stage : Stage) (state : State) → s.role ≡ Transaction stage → state_at_stage (step stage) ≡ state →
     made_of (slot_at_stage step s) ≡ record { key = s.order.key; debit = debit_in s.order.act; role = Payment state }
@@ -80,14 +76,6 @@ asked-at slots stan f h = ap (λ (g : Option Slot). slots_asked slots (timeout_o
 pub asked-role : (slots : List Slot) (stan : ℕ) (s : Slot) (role : Part) → slot_at slots stan ≡ Some s → s.role ≡ role → slots_asked slots (timeout slots stan) ≡ slots_asked slots (timeout_in_role slots s.order role)
 asked-role slots stan s role there is = asked-at slots stan (Some s) there ∙ ap (λ (r : Part). slots_asked slots (timeout_in_role slots s.order r)) is
 
--- where it doesn't wait for its own answer, nothing changes
-pub asked-stays : (slots : List Slot) (o : Instruction) (stage : Stage) → is_waiting (state_at_stage stage) ≡ false → slots_asked slots (timeout_at_stage slots o stage) ≡ slots
-asked-stays slots o (phase.Waiting n) h = cc
-asked-stays slots o (phase.Reversing u) h = refl
-asked-stays slots o phase.Approved h = refl
-asked-stays slots o (phase.Declined c) h = refl
-asked-stays slots o (phase.Reversed u) h = refl
-
 pub stage-waits : (stage : Stage) (n : ℕ) → state_at_stage stage ≡ Waiting n → stage ≡ phase.Waiting n
 stage-waits (phase.Waiting m) n h = cc
 stage-waits (phase.Reversing u) n h = cc
@@ -96,14 +84,7 @@ stage-waits (phase.Declined c) n h = cc
 stage-waits (phase.Reversed u) n h = cc
 
 pub asked-again : (slots : List Slot) (o : Instruction) (n : ℕ) → n ≡ 1 → slots_asked slots (timeout_at_stage slots o (phase.Waiting n)) ≡ slots_at_stage (λ _. phase.Waiting 2) o.key.stan slots
-asked-again slots o n is = rw (number_self n 1 is) refl
-
-pub asked-reversal : (slots : List Slot) (o : Instruction) (n : ℕ) → n ≢ 1 → nat_lt (length slots) 999999 ≡ true →
-    slots_asked slots (timeout_at_stage slots o (phase.Waiting n)) ≡ slots_with_reversal slots o.key.stan (next_reversal slots o)
-asked-reversal slots o n other left = rw (other_number n 1 other, left) refl
-
-pub asked-no-more : (slots : List Slot) (o : Instruction) (n : ℕ) → n ≢ 1 → nat_lt (length slots) 999999 ≡ false → slots_asked slots (timeout_at_stage slots o (phase.Waiting n)) ≡ slots
-asked-no-more slots o n other left = rw (other_number n 1 other, left) refl
+asked-again slots o n is = rw (eq-eqb n 1 is) refl
 
 -- ---- a time-out, and what the driver makes of it
 
@@ -118,7 +99,7 @@ payment-role (Reversal k) state h = cc
 
 made-found : (f : Option Slot) (m : Made) → Some m ≡ option_map made_of f → (s : Slot) × (f ≡ Some s) × (made_of s ≡ m)
 made-found None m h = cc
-made-found (Some s) m h = (s, refl, sym (some_is m (made_of s) h))
+made-found (Some s) m h = (s, refl, sym (same_Some m (made_of s) h))
 
 pub timed-out : (old new : List Made) (slots : List Slot) (stan : ℕ) (m : Made) (state : State) → IsTabled old slots → Some m ≡ option_map made_of (slot_at slots stan) → m.role ≡ Payment state →
     ((s : Slot) (stage : Stage) → slot_at slots m.key.stan ≡ Some s → s.role ≡ Transaction stage → made_of s ≡ m → state_at_stage stage ≡ state → IsTabled new (slots_asked slots (timeout_at_stage slots s.order stage))) →

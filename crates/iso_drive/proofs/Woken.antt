@@ -1,12 +1,11 @@
 -- Those that are due are timed out, one after another.
-use Rattle.std.proofs.Common.{◌≡◌, ℕ, refl, ap, sym, ◌∙◌, List, [], ◌∷◌, ◌++◌, length, take, drop, get_or, ◌<◌, ◌+◌, arith, append_assoc, append-nil}
-use Rattle.std.proofs.lemmas.List.{map-append, take_more, drop_more}
+use Rattle.std.proofs.Common.{◌≡◌, ℕ, refl, ap, sym, ◌∙◌, List, [], ◌∷◌, ◌++◌, length, take, drop, get_or, ◌<◌, ◌+◌, arith, append_assoc}
+use Rattle.std.proofs.lemmas.List.{map-append, take_at, drop_at, take_more, drop_more}
 use Rattle.iso_restarts.specs.Diary.{Diary, times_out}
 use Rattle.iso_waits.specs.declared.due.Due.{Due}
-use Rattle.iso_waits.specs.Waits.{due_by, again}
+use Rattle.iso_waits.specs.WaitLaws.{StayInTime}
+use Rattle.iso_waits.specs.Waits.{due_by, due_later, again, IsInOrder}
 use Rattle.iso_drive.specs.Driving.{Driving, times_out_all, wakes_first, wakes, next_due}
-use Rattle.iso_waits.proofs.Waits.{first-due}
-use Rattle.iso_waits.specs.Waits.{IsInOrder}
 
 -- one more element of a list
 one-more : {X : Type 0} (xs : List X) (i : ℕ) → i < length xs → (x : X) × (drop i xs ≡ x ∷ drop (i + 1) xs) × (take (i + 1) xs ≡ take i xs ++ x ∷ [])
@@ -35,13 +34,14 @@ wakes-next i d h =
     ap (λ (n : Diary). record { diary = n; waiting = drop 1 (drop i d.waiting ++ again at (take i d.waiting)) ++ again at (take 1 (drop i d.waiting ++ again at (take i d.waiting))); patience = d.patience; clock = d.clock }) diary
     ∙ ap (λ (l : List Due). record { diary = times_out_all d.diary (take (i + 1) d.waiting); waiting = l; patience = d.patience; clock = d.clock }) waits
 
-pub wakes-none : (d : Driving) → wakes_first 0 d ≡ d
-wakes-none d = ap (λ (l : List Due). record { diary = d.diary; waiting = l; patience = d.patience; clock = d.clock }) (append-nil d.waiting)
-
 -- as many as are due are those that are due
-pub wakes-due : (d : Driving) → IsInOrder d.waiting → wakes_first (length (due_by d.clock d.waiting)) d ≡ wakes d
-wakes-due d order =
-    let firsts = first-due d.clock d.waiting order in
-    let n = length (due_by d.clock d.waiting) in
-    ap (λ (l : List Due). record { diary = times_out_all d.diary l; waiting = drop n d.waiting ++ again (next_due d) l; patience = d.patience; clock = d.clock }) firsts.0
-    ∙ ap (λ (l : List Due). record { diary = times_out_all d.diary (due_by d.clock d.waiting); waiting = l ++ again (next_due d) (due_by d.clock d.waiting); patience = d.patience; clock = d.clock }) firsts.1
+pub wakes-due : (time : StayInTime) (d : Driving) → IsInOrder d.waiting → wakes_first (length (due_by d.clock d.waiting)) d ≡ wakes d
+wakes-due time d order =
+    let due = due_by d.clock d.waiting in
+    let others = due_later d.clock d.waiting in
+    let n = length due in
+    let split : d.waiting ≡ due ++ others = time.due d.clock d.waiting order in
+    let first : take n d.waiting ≡ due = ap (take n) split ∙ take_at due others n refl in
+    let rest : drop n d.waiting ≡ others = ap (drop n) split ∙ drop_at due others n refl in
+    ap (λ (l : List Due). record { diary = times_out_all d.diary l; waiting = drop n d.waiting ++ again (next_due d) l; patience = d.patience; clock = d.clock }) first
+    ∙ ap (λ (l : List Due). record { diary = times_out_all d.diary (due_by d.clock d.waiting); waiting = l ++ again (next_due d) (due_by d.clock d.waiting); patience = d.patience; clock = d.clock }) rest

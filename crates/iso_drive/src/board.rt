@@ -70,6 +70,8 @@ fn begin_again(board: &mut Board, order: &Order) -> Result<(), Fault>
     ensures damaged { OnErr result ((p : Party) → IsTabled board.old.made.items p.slots
         → CanNote p (Begun order.now) → ⊥) }
 {
+    // the laws of those who wait, for the prover
+    iso_waits::laws::who_waits();
     let Act::Debit(money) = order.act() else {
         return Err(Fault::Damaged);
     };
@@ -88,6 +90,8 @@ pub(crate) fn settle(board: &mut Board, stan: u32, state: State)
         → Closes slots key code stan state → IsBoard board.new (slots_after_answer slots key code) }
     ensures waiting { board.new.waiting.items ≡ without stan board.old.waiting.items }
 {
+    // the laws of those who wait, for the prover
+    iso_waits::laws::who_waits();
     close(&mut board.made, stan, state);
     leave_out(&mut board.waiting, stan);
 }
@@ -98,6 +102,8 @@ fn hear(board: &mut Board, key: &TxKey, code: u8)
         → IsBoard board.new (slots_after_answer slots key.now code) }
     ensures time { AreInTime 0 board.old.waiting.items → AreInTime 0 board.new.waiting.items }
 {
+    // the laws of those who wait, for the prover
+    iso_waits::laws::who_waits();
     match judge(&board.made, key, code) {
         Heard::Closed { stan, state } => settle(board, stan, state),
         Heard::Known | Heard::Foreign => {}
@@ -130,6 +136,8 @@ pub(crate) fn board_after(alloc: Global, notes: &[Note]) -> Result<Board, Fault>
     ensures damaged { IsErrOf result Fault.Damaged → (id : ℕ)
         → CanBeWritten (party_after id []) notes.now → ⊥ }
 {
+    // the laws of notes, for the prover
+    iso_restarts::laws::notes();
     let mut board = Board {
         made: Vec::new(alloc),
         waiting: VecDeque::new(alloc),

@@ -72,6 +72,8 @@ impl<L: NoteLog> Driver<L> {
         ensures damaged { IfErr result (λ e. e.0 ≡ Fault.Damaged
             → CanBeWritten (party_after id []) notes.now → ⊥) }
     {
+        // the laws of those who wait, for the prover
+        iso_waits::laws::who_waits();
         let board = match board_after(alloc, notes) {
             Ok(board) => board,
             Err(fault) => return Err((fault, log)),
@@ -124,6 +126,9 @@ impl<L: NoteLog> Driver<L> {
         // After a failure of the log no call succeeds; one that succeeds leaves the driver running.
         ensures stops { Stops (is_stopped self.old) (is_stopped self.new) result }
     {
+        // the laws of notes and of those who wait, for the prover
+        iso_restarts::laws::notes();
+        iso_waits::laws::who_waits();
         if self.board.made.len() >= MOST_STAN as usize {
             return Err(Fault::Refused(AcqFault::NoMoreTrace));
         }
@@ -157,6 +162,9 @@ impl<L: NoteLog> Driver<L> {
             → Remains L.is_ready L.synced L.pending self.old self.new) }
         ensures fault { IfErr result (λ e. (e ≡ Fault.Memory) ⊎ (e ≡ Fault.Log)) }
     {
+        // the laws of notes and of those who wait, for the prover
+        iso_restarts::laws::notes();
+        iso_waits::laws::who_waits();
         let Some(first) = first_of(&self.board.waiting) else {
             return Ok(());
         };
@@ -201,6 +209,8 @@ impl<L: NoteLog> Driver<L> {
         // Only want of memory and a failure of the log are told as faults.
         ensures fault { IfErr result (λ e. (e ≡ Fault.Memory) ⊎ (e ≡ Fault.Log)) }
     {
+        // the laws of those who wait, for the prover
+        iso_waits::laws::who_waits();
         self.clock = self.clock.max(now);
         let count = due_by(&self.board.waiting, self.clock);
         for woken in 0..count {
@@ -233,6 +243,9 @@ impl<L: NoteLog> Driver<L> {
         // Only a failure of the log is told as a fault.
         ensures fault { IfErr result (λ e. e ≡ Fault.Log) }
     {
+        // the laws of notes and of those who wait, for the prover
+        iso_restarts::laws::notes();
+        iso_waits::laws::who_waits();
         match judge(&self.board.made, &told.key, told.code) {
             Heard::Closed { stan, state } => {
                 self.acquirer.told(told.key, told.code)?;
@@ -286,6 +299,8 @@ impl<L: NoteLog> Driver<L> {
         ensures none_before { IfSome result (λ at. IsDriving L.is_ready L.synced L.pending self.now
             → AllByRecursion (λ d. at ≤ d.at) (driving_of L.synced L.pending self.now).waiting) }
     {
+        // the law that no other is due before the one in front, for the prover
+        iso_waits::laws::who_waits();
         match first_of(&self.board.waiting) {
             Some(first) => Some(first.at),
             None => None,
@@ -308,6 +323,8 @@ impl<L: NoteLog> Driver<L> {
         ensures closed { IsDriving L.is_ready L.synced L.pending self.now
             → (IsTrue result ↔ AreAllClosed (slots_in (driving_of L.synced L.pending self.now))) }
     {
+        // the law that none waits where no order does, for the prover
+        iso_waits::laws::who_waits();
         is_empty(&self.board.waiting)
     }
 

@@ -1,17 +1,18 @@
 -- The request for a purchase, part by part.
-use Rattle.std.proofs.Common.{◌≡◌, ◌<◌, ◌*◌, ◌/◌, ℕ, Bool, true, false, refl, ap, sym, subst, ◌∙◌, List, [], ◌∷◌, ◌++◌, append_assoc, append-nil, Option, Some, Result, Ok, Err}
-use Rattle.std.specs.Prelude.{◌==◌, ◌||◌, is_some, OnOk, if◌then◌else◌}
+use Rattle.std.proofs.Common.{◌≡◌, ◌<◌, ◌*◌, ◌/◌, ℕ, Bool, refl, ap, sym, subst, ◌∙◌, List, [], ◌∷◌, ◌++◌, append_assoc, append-nil, Option, Result, Ok, Err}
+use Rattle.std.specs.Prelude.{OnOk}
 use Rattle.std.specs.List.{flat_map}
+use Rattle.std.proofs.Math.Path.{fun_ext}
 use Rattle.iso_parts.specs.Bitmap.{PlainBitmaps}
 use Rattle.iso_parts.specs.Digits.{four_digits_of}
 use Rattle.iso_parts.specs.declared.spec.FieldSpec.{FieldSpec}
 use Rattle.iso_parts.specs.PartLaws.{PartLaws}
 use Rattle.iso_table.specs.Layout.{Layout, AreGood}
 use Rattle.iso_wire.specs.Decimal.{decimal}
-use Rattle.iso_wire.specs.Elements.{has, value_in}
+use Rattle.iso_wire.specs.DecimalLaws.{DecimalLaws}
+use Rattle.iso_wire.specs.Elements.{has}
 use Rattle.iso_wire.specs.OneSpelling.{WellFormed}
 use Rattle.iso_wire.specs.Spelling.{Parts, PlainSpelling, plain_of}
-use Rattle.iso_wire.proofs.Packs.{plain_spelling_lem}
 use Rattle.iso_order.specs.declared.act.Act.TheVariants.{Debit}
 use Rattle.iso_order.specs.declared.act.Money.{Money}
 use Rattle.iso_order.specs.declared.key.TxKey.{TxKey}
@@ -27,14 +28,6 @@ pub purchase-listed : (k : TxKey) (m : Money) → request (record { key = k; act
 unfolding request
 purchase-listed k m = refl
 
-has_by : (b : Bool) (v : List ℕ) (o : Option (List ℕ)) → (b || is_some o) ≡ is_some (if b then Some v else o)
-has_by true v o = refl
-has_by false v o = refl
-
--- one element more in front
-pub has-more : (n k : ℕ) (v : List ℕ) (es : List (ℕ × List ℕ)) → (n == k || has es k) ≡ has ((n, v) ∷ es) k
-has-more n k v es = has_by (n == k) v (value_in es k)
-
 -- ---- the parts
 
 -- parts that are put behind others
@@ -43,9 +36,9 @@ parts-more rows [] ys old mid new first rest = subst (λ (l : List ℕ). AddsPar
 parts-more rows (x ∷ xs) ys old mid new first rest = (first.0, first.1, parts-more rows xs ys first.0 mid new first.2 rest)
 
 -- where the table packs them, the bytes of four numbers are their parts
-pub four-added : PartLaws → (rows : List (Option FieldSpec)) → AreGood rows → ArePacked rows → (amount : ℕ) (k : TxKey) (old new : List ℕ) → new ≡ old ++ four_packed amount k
+pub four-added : PartLaws → DecimalLaws → (rows : List (Option FieldSpec)) → AreGood rows → ArePacked rows → (amount : ℕ) (k : TxKey) (old new : List ℕ) → new ≡ old ++ four_packed amount k
     → AddsParts rows (four_elements amount k) old new
-four-added laws rows good are amount k old new written =
+four-added laws decimals rows good are amount k old new written =
     let one = old ++ packed 3 0 in
     let two = one ++ packed 6 amount in
     let three = two ++ packed 5 k.sent in
@@ -56,7 +49,7 @@ four-added laws rows good are amount k old new written =
     ∙ sym (append_assoc one (packed 6 amount) (packed 5 k.sent ++ packed 3 k.stan))
     ∙ sym (append_assoc two (packed 5 k.sent) (packed 3 k.stan)) in
     let put : (n bytes v : ℕ) (before : List ℕ) → IsPackedAt rows n bytes → AddsPart rows n (decimal (2 * bytes) v) before (before ++ packed bytes v) =
-    λ n bytes v before is. adds-packed laws rows n bytes v is.0 before (before ++ packed bytes v) (good n is.0 is.1) (sym is.1) is.2 refl in
+    λ n bytes v before is. adds-packed laws decimals rows n bytes v is.0 before (before ++ packed bytes v) (good n is.0 is.1) (sym is.1) is.2 refl in
     (one, put 3 3 0 old are.processing, (two, put 4 6 amount one are.amount, (three, put 7 5 k.sent two are.sent, (four, put 11 3 k.stan three are.stan, last))))
 
 pub parts-written : (rows : List (Option FieldSpec)) (es : List (ℕ × List ℕ)) (old new : List ℕ) → AddsParts rows es old new → new ≡ old ++ flat_map (plain_of rows) es
@@ -70,16 +63,38 @@ parts-spelled rows (e ∷ es) old new h = (plain_of rows e, flat_map (plain_of r
 
 -- ---- the whole
 
+-- three pieces behind what was there, one after another
+pub three-pieces : (old none one two all a b c : List ℕ) → none ≡ old → one ≡ none ++ a → two ≡ one ++ b → all ≡ two ++ c → all ≡ old ++ (a ++ (b ++ c))
+three-pieces old none one two all a b c same first second third =
+    third
+    ∙ ap (λ (l : List ℕ). l ++ c) (second ∙ ap (λ (l : List ℕ). l ++ b) (first ∙ ap (λ (l : List ℕ). l ++ a) same))
+    ∙ append_assoc (old ++ a) b c
+    ∙ append_assoc old a (b ++ c)
+
 -- the type, the bitmaps and the parts are the plain spelling of the request
 pub purchase-spelled : (t : Layout) (o : Instruction) (money : Money) (set : ℕ → Bool) (maps : List ℕ) → WellFormed (request o) → o.act ≡ Debit money → o.key.base / 1000 ≡ t.version
     → ((k : ℕ) → set k ≡ has (purchase_elements o.key money) k) → PlainBitmaps t.bitmap set maps
     → Parts t.rows (purchase_elements o.key money) (flat_map (plain_of t.rows) (purchase_elements o.key money))
     → PlainSpelling t (request o) (four_digits_of t.mti o.key.base ++ (maps ++ flat_map (plain_of t.rows) (purchase_elements o.key money)))
 purchase-spelled t o money set maps well act version agrees plain parts =
-    let listed : request o ≡ record { mti = o.key.base; elements = purchase_elements o.key money } = ap (λ a. request (record { key = o.key; act = a })) act ∙ purchase-listed o.key money in
-    let bytes = four_digits_of t.mti o.key.base ++ (maps ++ flat_map (plain_of t.rows) (purchase_elements o.key money)) in
-    rw listed (plain_spelling_lem t (record { mti = o.key.base; elements = purchase_elements o.key money }) set maps bytes
-    (rw listed at well.mti) version (rw listed at well.ascending) agrees plain parts refl)
+    let es = purchase_elements o.key money in
+    let listed : request o ≡ record { mti = o.key.base; elements = es } = ap (λ a. request (record { key = o.key; act = a })) act ∙ purchase-listed o.key money in
+    let own : PlainBitmaps t.bitmap (has es) maps = subst (λ (s : ℕ → Bool). PlainBitmaps t.bitmap s maps) (fun_ext agrees) plain in
+    rw listed (record {
+      spelling = record {
+        mti = rw listed at well.mti;
+        version = version;
+        ascending = rw listed at well.ascending;
+        secondary = own.two;
+        maps = maps;
+        parts = flat_map (plain_of t.rows) es;
+        bitmaps = own.spelled;
+        elements = parts;
+        bytes = refl;
+      };
+      bitmaps = own;
+      parts = refl;
+    })
 
 -- what follows of an answer that is good follows of the answer
 pub on-ok : {T E : Type 0} (P Q : Type 0) (r : Result T E) → (P → Q) → OnOk r P → OnOk r Q

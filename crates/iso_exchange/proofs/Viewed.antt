@@ -11,17 +11,19 @@ use Rattle.iso_wire.specs.Contents.{Contents}
 use Rattle.iso_wire.specs.Elements.{value_in}
 use Rattle.iso_wire.specs.Reading.{message_at, whole}
 use Rattle.iso_wire.specs.Viewing.{ViewContents, Views, SpellsBodies, front_of}
-use Rattle.iso_wire.proofs.ViewedValues.{value_there, value_absent}
+use Rattle.iso_wire.specs.ViewLaws.{ViewLaws}
 use Rattle.iso_order.specs.declared.told.Told.{Told}
 use Rattle.std.proofs.lemmas.Bool.{eqb-true}
 use Rattle.iso_wire.specs.Decimal.{number, number_in}
-use Rattle.iso_wire.proofs.Orders.{Values}
 use Rattle.iso_exchange.specs.Packed.{IsPacked}
 use Rattle.iso_exchange.specs.Plain.{IsPlain}
 use Rattle.iso_exchange.proofs.Packs.{packed-digits, packed-number}
 use Rattle.iso_order.specs.Fields.{text}
 use Rattle.iso_order.specs.Told.{told_of}
 use Rattle.iso_exchange.specs.Answer.{told_by, told_in}
+
+abbrev Values : Type 0
+Values = List (ℕ × List ℕ)
 
 same-message : (m : Contents) (n : ℕ) (o : Contents) (k : ℕ) → whole m n ≡ whole o k → m ≡ o
 same-message m n o k h = let pair : (m, n) ≡ (o, k) = cc in ap (λ (p : Contents × ℕ). p.0) pair
@@ -33,9 +35,6 @@ if-ok P Q (Err e) f h = tt
 
 some-row : (s k : FieldSpec) → Some s ≡ Some k → s ≡ k
 some-row s k h = cc
-
-pub same-got : (v w : List ℕ) (n k : ℕ) → got v n ≡ got w k → v ≡ w
-same-got v w n k h = cc
 
 -- the value of an element whose body is there
 record IsWired (rows : List (Option FieldSpec)) (es : Values) (n : ℕ) (body : List ℕ) : Type 0 where
@@ -90,16 +89,16 @@ module _ (t : Layout) (v : ViewContents) (b : List ℕ) (views : Views t b (Ok v
       ap (drop views.1) (sym whole-body) ∙ sym (append-nil (drop views.1 (take v.used b)))
 
   -- an element whose body isn't there has no text
-  pub no-text : (n : ℕ) (m : Contents) (size : ℕ) → message_at t b ≡ whole m size → value_in v.wires n ≡ None → [] ≡ text m n
-  no-text n m size h none =
-      let absent : value_in views.0 n ≡ None = value_absent t.rows views.0 v.wires (drop views.1 (take v.used b)) n views.3 none in
+  pub no-text : ViewLaws → (n : ℕ) (m : Contents) (size : ℕ) → message_at t b ≡ whole m size → value_in v.wires n ≡ None → [] ≡ text m n
+  no-text bodies n m size h none =
+      let absent : value_in views.0 n ≡ None = bodies.absent t.rows views.0 v.wires (drop views.1 (take v.used b)) n views.3 none in
       sym (ap (λ (m : Contents). text m n) (viewed-is m size h) ∙ ap (λ (o : Option (List ℕ)). unwrap_or o []) absent)
 
   -- in front of its body the text is read
-  pub text-read : PartLaws → AreGood t.rows → (n start : ℕ) (s : FieldSpec) (m : Contents) (size : ℕ) → message_at t b ≡ whole m size → value_in v.starts n ≡ Some start
+  pub text-read : PartLaws → ViewLaws → AreGood t.rows → (n start : ℕ) (s : FieldSpec) (m : Contents) (size : ℕ) → message_at t b ≡ whole m size → value_in v.starts n ≡ Some start
       → row_at t.rows n ≡ Some s → (used : ℕ) × (part_at s (drop (start - prefix_size s.length) b) ≡ got (text m n) used)
-  text-read laws good n start s m size h there row =
-      let found = value_there t.rows n b views.0 v.wires views.1 start (drop views.1 (take v.used b)) [] views.3 parts-lie (ap (λ (l : List (ℕ × ℕ)). value_in l n) (sym views.5) ∙ there) in
+  text-read laws bodies good n start s m size h there row =
+      let found = bodies.there t.rows n b views.0 v.wires views.1 start (drop views.1 (take v.used b)) [] views.3 parts-lie (ap (λ (l : List (ℕ × ℕ)). value_in l n) (sym views.5) ∙ there) in
       let own : found.is.0 ≡ s = some-row found.is.0 s (sym found.is.1 ∙ row) in
       let part : Part s found.value found.part = subst (λ (k : FieldSpec). Part k found.value found.part) own found.is.2 in
       let place : start - prefix_size s.length ≡ start - front_of (row_at t.rows n) = ap (λ (r : Option FieldSpec). start - front_of r) (sym row) in
@@ -109,9 +108,9 @@ module _ (t : Layout) (v : ViewContents) (b : List ℕ) (views : Views t b (Ok v
       (length found.part, read ∙ ap (λ (w : List ℕ). got w (length found.part)) (sym value))
 
   -- where its body is there, it has a row
-  pub row-there : (n start : ℕ) → value_in v.starts n ≡ Some start → row_at t.rows n ≡ None → ⊥
-  row-there n start there none =
-      let found = value_there t.rows n b views.0 v.wires views.1 start (drop views.1 (take v.used b)) [] views.3 parts-lie (ap (λ (l : List (ℕ × ℕ)). value_in l n) (sym views.5) ∙ there) in
+  pub row-there : ViewLaws → (n start : ℕ) → value_in v.starts n ≡ Some start → row_at t.rows n ≡ None → ⊥
+  row-there bodies n start there none =
+      let found = bodies.there t.rows n b views.0 v.wires views.1 start (drop views.1 (take v.used b)) [] views.3 parts-lie (ap (λ (l : List (ℕ × ℕ)). value_in l n) (sym views.5) ∙ there) in
       absurd (let both : Some found.is.0 ≡ None = sym found.is.1 ∙ none in cc)
 
   -- what all of the bytes tell is what the message tells

@@ -96,8 +96,9 @@ fn append_digits(
     ensures { OnOk result
         (AddsPart table.now.rows n (decimal digits number) out.old.items out.new.items) }
 {
-    // the laws of parts, for the prover
+    // the laws of parts and of decimals, for the prover
     iso_parts::laws::parts();
+    iso_wire::laws::decimals();
     let Some(row) = table.row(n) else {
         return Err(PackFault::NoRow(n));
     };
@@ -151,8 +152,9 @@ fn append_numbers(
     ensures { OnOk result
         (AddsParts table.now.rows (four_elements amount key.now) out.old.items out.new.items) }
 {
-    // the laws of parts, for the prover
+    // the laws of parts and of decimals, for the prover
     iso_parts::laws::parts();
+    iso_wire::laws::decimals();
     if are_packed(table) {
         append_at_once(amount, key, out)?;
         return Ok(());
@@ -176,6 +178,8 @@ fn append_parts(
     ensures spelled { OnOk result (Parts table.now.rows (purchase_elements key.now money.now)
         (flat_map (plain_of table.now.rows) (purchase_elements key.now money.now))) }
 {
+    // the law that an acquirer's own digits are its code, for the prover
+    iso_order::laws::acquirers_in_own_digits();
     let (account, len) = (money.pan.digits(), money.pan.len());
     append_digits(table, 2, account, len as usize, out)?;
     append_numbers(table, key, money.amount, out)?;

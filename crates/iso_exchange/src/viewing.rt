@@ -51,8 +51,9 @@ fn read_text(
         ((m : Contents) (size : ℕ) → message_at table.now body.now ≡ whole m size
         → value.new.items ≡ text m n) }
 {
-    // the laws of parts, for the prover
+    // the laws of parts and of views, for the prover
     iso_parts::laws::parts();
+    iso_wire::laws::views();
     value.clear();
     let Some(place) = message.place(n) else {
         return Ok(());
@@ -205,6 +206,8 @@ fn told_by(
         → acquirer ≡ number_in 1 11 (text m 32) → code ≡ number_in 2 2 (text m 39)
         → result ≡ told_of m }
 {
+    // the laws of decimals, for the prover
+    iso_wire::laws::decimals();
     if !is_answer(mti) {
         return None;
     }

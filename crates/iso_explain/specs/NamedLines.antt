@@ -22,8 +22,8 @@ pub record IsNoteOf (names : NetworkNames) (n : ℕ) (note : List ℕ) : Type 0 
 abbrev pub NamedLine : Bool → List (Option FieldSpec) → NetworkNames → ℕ × List ℕ → List ℕ → Type 0
 NamedLine is_clear rows names e line =
     (note : List ℕ) × IsNoteOf names e.0 note
-    × (line ≡ codes "DE" ++ (decimal 3 e.0
-    ++ (61 ∷ shown_text is_clear (class_by (row_at rows e.0)) e.0 e.1 ++ (note ++ 10 ∷ []))))
+    × (line ≡ codes "DE" ++ (decimal 3 e.0 ++ (codes "="
+    ++ (shown_text is_clear (class_by (row_at rows e.0)) e.0 e.1 ++ (note ++ codes "\n")))))
 
 -- the lines of the elements, one after another
 abbrev pub NamedLines : Bool → List (Option FieldSpec) → NetworkNames → List (ℕ × List ℕ) → List ℕ

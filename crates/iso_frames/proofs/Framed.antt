@@ -3,28 +3,27 @@ use Rattle.std.proofs.Common.{◌≡◌, ◌≤◌, ℕ, refl, ap, sym, ◌∙�
 use Rattle.std.proofs.lemmas.List.{map-append}
 use Rattle.iso_table.specs.Layout.{Layout}
 use Rattle.iso_wire.specs.declared.header.Header.{Header}
+use Rattle.iso_wire.specs.FrameLaws.{FrameLaws}
 use Rattle.iso_wire.specs.Framing.{frame_of, frames_of, largest}
-use Rattle.iso_wire.proofs.FrameSplits.{fit_more}
 use Rattle.iso_frames.specs.declared.reading.Read.{Read}
 use Rattle.iso_frames.specs.Reading.{read_of, TakesFrames}
 
-frames-more : (h : Header) (bodies : List (List ℕ)) (body : List ℕ) → frames_of h (bodies ++ body ∷ []) ≡ frames_of h bodies ++ frame_of h body
-frames-more h [] body = append-nil (frame_of h body)
-frames-more h (b ∷ bs) body = ap (λ rest. frame_of h b ++ rest) (frames-more h bs body) ∙ sym (append_assoc (frame_of h b) (frames_of h bs) (frame_of h body))
+frames-more : FrameLaws → (h : Header) (bodies : List (List ℕ)) (body : List ℕ) → frames_of h (bodies ++ body ∷ []) ≡ frames_of h bodies ++ frame_of h body
+frames-more laws h bodies body = laws.joined h bodies (body ∷ []) ∙ ap (λ last. frames_of h bodies ++ last) (append-nil (frame_of h body))
 
 -- no frame is taken yet
 pub none-taken : (t : Layout) (h : Header) (came : List ℕ) → TakesFrames t h came came []
 none-taken t h came = record { bodies = []; joined = refl; fit = tt; each = refl }
 
 -- one more is taken behind some
-pub one-more : (t : Layout) (h : Header) (first before after body : List ℕ) (some : List Read) (read : Read) →
+pub one-more : FrameLaws → (t : Layout) (h : Header) (first before after body : List ℕ) (some : List Read) (read : Read) →
     TakesFrames t h first before some → before ≡ frame_of h body ++ after → length body ≤ largest h → read ≡ read_of t body →
     TakesFrames t h first after (some ++ read ∷ [])
-one-more t h first before after body some read so front fits told = record {
+one-more laws t h first before after body some read so front fits told = record {
   bodies = so.bodies ++ body ∷ [];
   joined = so.joined ∙ ap (λ rest. frames_of h so.bodies ++ rest) front
       ∙ sym (append_assoc (frames_of h so.bodies) (frame_of h body) after)
-      ∙ ap (λ frames. frames ++ after) (sym (frames-more h so.bodies body));
-  fit = fit_more h so.bodies body so.fit fits;
+      ∙ ap (λ frames. frames ++ after) (sym (frames-more laws h so.bodies body));
+  fit = laws.fit h so.bodies (body ∷ []) so.fit (fits, tt);
   each = ap (λ r. some ++ r ∷ []) told ∙ ap (λ rs. rs ++ read_of t body ∷ []) so.each ∙ sym (map-append (read_of t) so.bodies (body ∷ []));
 }

@@ -10,6 +10,7 @@ use bytes::BytesMut;
 use iso_exchange::answer_in;
 use iso_order::{Told, answer_of};
 use iso_table::Table;
+use iso_wire::laws::frames;
 use iso_wire::{Framed, Header, UnpackCause, unframe, unpack};
 use std::alloc::Global;
 
@@ -111,6 +112,8 @@ pub fn take_frames(
     // Only want of memory is told as a fault.
     ensures fault { IfErr result (λ e. e ≡ fault.Memory) }
 {
+    // the laws of frames behind others, for the prover
+    frames();
     'frames: loop {
         match take_front(alloc, table, header, text, came)? {
             Front::More => return Ok(false),

@@ -1,8 +1,9 @@
 -- To which shard an account number belongs.
-use Rattle.std.proofs.Common.{◌≡◌, ◌∙◌, ℕ, ◌<◌, Bool, true, false, List, [], ◌∷◌, ◌++◌, slice_get, Option, Some, None, IfSome, zero, suc, sym, refl, ap, if◌then◌else◌}
+use Rattle.std.proofs.Common.{◌≡◌, ◌∙◌, ℕ, ◌<◌, Bool, true, false, List, [], ◌∷◌, ◌++◌, slice_get, Option, Some, None, IfSome, zero, suc, subst, sym, refl, ap, if◌then◌else◌}
 use Rattle.std.specs.List.{AllByRecursion}
+use Rattle.std.proofs.lemmas.Option.{same_Some}
+use Rattle.std.proofs.lemmas.List.Elements.{All-push, All-from_recursion, recursion_from_All}
 use Rattle.iso_order.specs.Pan.{AccountNumber}
-use Rattle.iso_order.proofs.Lists.{all-push, all-at}
 use Rattle.iso_front.specs.declared.prefixes.Given.{Given}
 use Rattle.iso_front.specs.Prefixes.{covers, AreApart}
 use Rattle.iso_front.specs.Shards.{NoneMeet, Belongs, shard_in}
@@ -33,6 +34,12 @@ found-some count gs pan None is = tt
 found-some count gs pan (Some n) is = found count gs pan n (sym is)
 
 -- ---- the shard that has the account number is told
+
+-- what holds of each holds of the one at a place
+all-at : {X : Type 0} (P : X → Type 0) (xs : List X) (i : ℕ) (x : X) → AllByRecursion P xs → slice_get xs i ≡ Some x → P x
+all-at P [] i x all there = absurd (cc)
+all-at P (y ∷ ys) zero x all there = subst P (same_Some y x there) all.0
+all-at P (y ∷ ys) (suc i) x all there = all-at P ys i x all.1 there
 
 only-by : (t : Bool) (g : Given) (gs : List Given) (pan : AccountNumber) (h : Given) → covers g.prefixes pan ≡ t
     → AllByRecursion (λ p. AreApart g.prefixes p.prefixes) gs
@@ -68,6 +75,9 @@ there-some count gs pan (Some n) is all =
     all-at (λ (g : Given). g.shard < count) gs b.place (record { prefixes = b.prefixes; shard = n }) all b.given
 
 -- ---- one more
+
+pub all-push : {X : Type 0} (P : X → Type 0) (xs : List X) (x : X) → AllByRecursion P xs → P x → AllByRecursion P (xs ++ x ∷ [])
+all-push P xs x all here = recursion_from_All P (xs ++ x ∷ []) (All-push P xs x (All-from_recursion P xs all) here)
 
 -- what is apart from all of them stands behind them
 pub none-meet-push : (gs : List Given) (h : Given) → NoneMeet gs → AllByRecursion (λ g. AreApart g.prefixes h.prefixes) gs

@@ -43,10 +43,6 @@ torn_again at (byte ∷ more) file new within some torn =
     same_file at bytes file (overlaid new at bytes) (overlaid file at bytes) within over (Holds-overlaid new at bytes) (Torn-overlaid file at bytes) (Holds-overlaid file at bytes)
 
 module _ (at : ℕ) (old new : List ℕ → Type 0) where
-  pub left_written : (waiting : List ℕ) → 0 < length waiting → Follows (Mixed at waiting) old new → (c : List ℕ) → new c → Leaves at waiting old c
-  left_written [] some follows c may = absurd (omega (arith, some))
-  left_written (byte ∷ more) some follows c may = follows c may
-
   pub left_torn : (waiting : List ℕ) → 0 < length waiting → Follows (Mixed at waiting) old new → (c : List ℕ) → Leaves at waiting new c → Leaves at waiting old c
   left_torn [] some follows c may = absurd (omega (arith, some))
   left_torn (byte ∷ more) some follows c may =

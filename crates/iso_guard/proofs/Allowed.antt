@@ -10,12 +10,9 @@ use Rattle.iso_issuer.specs.Books.{Books}
 use Rattle.iso_issuer.specs.Laws.{books_after}
 use Rattle.iso_host.specs.Asking.{message_in, orders_of}
 use Rattle.iso_host.specs.Entering.{books_after_bodies, BodiesGoOn}
-use Rattle.iso_host.specs.Handling.{EntersOrKeeps}
-use Rattle.iso_peers.proofs.Pieces.{by_orders, body_alone}
+use Rattle.iso_host.specs.Handling.{BodyAlone, EntersOrKeeps}
 use Rattle.iso_guard.specs.Guarding.{Guard, IsAllowed, EntersAllowed}
 use Rattle.iso_guard.specs.Entering.{entering_unless, foreign_to, entering_of, entering_all, books_after_guarded, EntersOrNot}
-
--- ---- books
 
 -- ---- what enters of bodies
 
@@ -65,12 +62,13 @@ module _ (g : Guard) where
   one_more_or_not before after bodies body law (inl same) = allowed_enter before after bodies same
   one_more_or_not before after bodies body law (inr is) = allowed_enter before after (bodies ++ body ∷ []) (is ∙ books_more g before bodies body law)
 
--- they enter by orders
+-- they enter by the orders that they ask
 pub enter_by_orders : (acquirers : List ℕ) (t : Layout) (old new : Books) → EntersAllowed acquirers t old new → (orders : List Instruction) × (new ≡ books_after old orders)
-enter_by_orders acquirers t old new enters = (orders_of t enters.bodies, enters.entered ∙ by_orders t old enters.bodies)
+unfolding books_after_bodies
+enter_by_orders acquirers t old new enters = (orders_of t enters.bodies, enters.entered)
 
 -- a message that may have been entered
-pub entered_or_kept : (t : Layout) (h : Header) (message : List ℕ) (old new : Books) → EntersOrKeeps t h old new (message_in t message)
+pub entered_or_kept : BodyAlone → (t : Layout) (h : Header) (message : List ℕ) (old new : Books) → EntersOrKeeps t h old new (message_in t message)
     → (new ≡ old) ⊎ (new ≡ books_after_bodies t old (message ∷ []))
-entered_or_kept t h message old new (inl same) = inl same
-entered_or_kept t h message old new (inr is) = inr (is.0 ∙ body_alone t old message)
+entered_or_kept alone t h message old new (inl same) = inl same
+entered_or_kept alone t h message old new (inr is) = inr (is.0 ∙ alone t old message)

@@ -7,9 +7,9 @@ use Rattle.iso_table.specs.Layout.{Layout}
 use Rattle.iso_wire.specs.declared.header.Header.{Header}
 use Rattle.iso_wire.specs.declared.header.Header.TheVariants.{Binary2, Ascii4, Bcd2}
 use Rattle.iso_wire.specs.Contents.{Contents}
+use Rattle.iso_wire.specs.FrameLaws.{FrameLaws}
 use Rattle.iso_wire.specs.Framing.{frame_of, header_of, header_size, largest}
 use Rattle.iso_wire.specs.Spelling.{PlainSpelling}
-use Rattle.iso_wire.proofs.FrameHeaders.{length-header_of}
 use Rattle.iso_order.specs.declared.key.TxKey.{TxKey}
 use Rattle.iso_order.specs.Outcome.{code_alone}
 use Rattle.iso_order.specs.Response.{response}
@@ -30,12 +30,12 @@ header_counts Ascii4 = omega arith
 header_counts Bcd2 = omega arith
 
 -- the body behind a header
-pub behind_header : (h : Header) (body : List ℕ) → drop (header_size h) (frame_of h body) ≡ body
-behind_header h body =
-    subst (λ (n : ℕ). drop n (header_of h (length body) ++ body) ≡ body) (length-header_of h (length body)) (drop-append_seam (header_of h (length body)) body)
+behind_header : FrameLaws → (h : Header) (body : List ℕ) → drop (header_size h) (frame_of h body) ≡ body
+behind_header laws h body =
+    subst (λ (n : ℕ). drop n (header_of h (length body) ++ body) ≡ body) (laws.header h (length body)) (drop-append_seam (header_of h (length body)) body)
 
-pub frame_length : (h : Header) (body : List ℕ) → length (frame_of h body) ≡ header_size h + length body
-frame_length h body = length-append (header_of h (length body)) body ∙ ap (λ (n : ℕ). n + length body) (length-header_of h (length body))
+pub frame_length : FrameLaws → (h : Header) (body : List ℕ) → length (frame_of h body) ≡ header_size h + length body
+frame_length laws h body = length-append (header_of h (length body)) body ∙ ap (λ (n : ℕ). n + length body) (laws.header h (length body))
 
 -- ---- the host's answer, behind the bytes before its message
 
@@ -45,18 +45,18 @@ unfolding IsAnswerTo
 framed t h books message bytes is = is
 
 -- no answer was given
-pub none_behind : (t : Layout) (h : Header) (before bytes old new : List ℕ) (made : Option Contents) → IsFramed t h made bytes → length bytes < header_size h → new ≡ old
+pub none_behind : FrameLaws → (t : Layout) (h : Header) (before bytes old new : List ℕ) (made : Option Contents) → IsFramed t h made bytes → length bytes < header_size h → new ≡ old
     → GrowsBy (IsFramedBehind t h before made) old new
-none_behind t h before bytes old new None is few same = ([], refl, same ∙ sym (append-nil old))
-none_behind t h before bytes old new (Some r) is few same = absurd (omega (arith, few, ap length is.3, frame_length h is.0))
+none_behind laws t h before bytes old new None is few same = ([], refl, same ∙ sym (append-nil old))
+none_behind laws t h before bytes old new (Some r) is few same = absurd (omega (arith, few, ap length is.3, frame_length laws h is.0))
 
 -- an answer was given
-pub some_behind : (t : Layout) (h : Header) (before bytes body old new : List ℕ) (made : Option Contents) → IsFramed t h made bytes → header_size h ≤ length bytes
+pub some_behind : FrameLaws → (t : Layout) (h : Header) (before bytes body old new : List ℕ) (made : Option Contents) → IsFramed t h made bytes → header_size h ≤ length bytes
     → body ≡ drop (header_size h) bytes → length (before ++ body) ≤ largest h → new ≡ old ++ frame_of h (before ++ body)
     → GrowsBy (IsFramedBehind t h before made) old new
-some_behind t h before bytes body old new None is many body_is fits grown = absurd (omega (arith, many, ap length is, header_counts h))
-some_behind t h before bytes body old new (Some r) is many body_is fits grown =
-    let plain_is : body ≡ is.0 = body_is ∙ ap (drop (header_size h)) is.3 ∙ behind_header h is.0 in (
+some_behind laws t h before bytes body old new None is many body_is fits grown = absurd (omega (arith, many, ap length is, header_counts h))
+some_behind laws t h before bytes body old new (Some r) is many body_is fits grown =
+    let plain_is : body ≡ is.0 = body_is ∙ ap (drop (header_size h)) is.3 ∙ behind_header laws h is.0 in (
       frame_of h (before ++ body),
       (body, subst (PlainSpelling t r) (sym plain_is) is.1, fits, refl),
       grown,

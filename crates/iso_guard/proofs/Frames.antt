@@ -2,10 +2,8 @@
 use Rattle.std.proofs.Common.{◌≡◌, ◌∙◌, ◌++◌, ◌+◌, ◌≤◌, ℕ, zero, suc, zero-add, refl, sym, ap, subst, arith, inl, inr, List, [], ◌∷◌, length, drop, append_assoc, append-nil}
 use Rattle.std.specs.Prelude.{Option, Some, None}
 use Rattle.std.proofs.lemmas.List.{length-drop, length-append}
-use Rattle.std.proofs.Math.Seq.{drop-length, take-length}
-use Rattle.iso_table.specs.Layout.{Layout}
+use Rattle.iso_wire.specs.FrameLaws.{FrameLaws}
 use Rattle.iso_wire.specs.Framing.{frame_of, frames_of, AllFit, Begins}
-use Rattle.iso_wire.proofs.FrameSplits.{frames_more, fit_more}
 use Rattle.iso_issuer.specs.Books.{Books}
 use Rattle.iso_peers.specs.Turn.{books_change}
 use Rattle.iso_host.specs.Peers.{one_peer}
@@ -15,11 +13,10 @@ use Rattle.iso_host.specs.declared.peer.PeerFault.{PeerFault}
 use Rattle.iso_host.specs.declared.peer.PeerFault.TheVariants.{BadHeader, Memory}
 use Rattle.iso_peers.specs.declared.turn.Turned.{Turned}
 use Rattle.iso_guard.specs.Guarding.{Guard, EntersAllowed}
-use Rattle.iso_guard.specs.Entering.{entering_of, books_after_guarded, EntersOrNot}
+use Rattle.iso_guard.specs.Entering.{entering_of, books_after_guarded}
 use Rattle.iso_guard.specs.Answering.{AnswersGuarded, IsGuardedAnswer, IsGuardedOutput, IsGuardedOutputFrom}
 use Rattle.iso_guard.specs.Taking.{StopsGuarded, TakesFrames, TakesGuarded}
 use Rattle.iso_guard.proofs.Allowed.{allowed_enter, books_more, one_more_or_not}
-use Rattle.iso_guard.proofs.Answers.{frame_length, header_counts}
 
 -- ---- one body more
 
@@ -100,49 +97,31 @@ module _ (g : Guard) (before : Books) (bytes old : List ℕ) where
       let whole : length rest ≡ length (frame_of g.header body) + length (drop size rest) = ap length begins.whole ∙ length-append (frame_of g.header body) (drop size rest) in
       omega (arith, within, whole, begins.size, length-drop used bytes)
 
-  -- and one at least
-  pub some_bytes : (rest body : List ℕ) (size : ℕ) → Begins g.header rest body size → 1 ≤ size
-  some_bytes rest body size begins = omega (arith, begins.size, frame_length g.header body, header_counts g.header)
+  frames_more : FrameLaws → (bodies : List (List ℕ)) (body rest : List ℕ)
+      → frames_of g.header (bodies ++ body ∷ []) ++ rest ≡ frames_of g.header bodies ++ (frame_of g.header body ++ rest)
+  frames_more joins bodies body rest =
+      ap (λ (l : List ℕ). l ++ rest) (joins.joined g.header bodies (body ∷ [])) ∙ append_assoc (frames_of g.header bodies) (frame_of g.header body ++ []) rest
+      ∙ ap (λ (l : List ℕ). frames_of g.header bodies ++ (l ++ rest)) (append-nil (frame_of g.header body))
 
   -- one frame more
-  pub next_frame : (mid after : Books) (used size : ℕ) (body between new : List ℕ) → BodiesGoOn → FramesSoFar g before mid bytes old between used
+  pub next_frame : FrameLaws → (mid after : Books) (used size : ℕ) (body between new : List ℕ) → BodiesGoOn → FramesSoFar g before mid bytes old between used
       → Begins g.header (drop used bytes) body size → AnswersGuarded g (replying mid between) (replying after new) body
       → FramesSoFar g before after bytes old new (used + size)
-  next_frame mid after used size body between new law so begins answered =
+  next_frame joins mid after used size body between new law so begins answered =
       let behind = drop_again used size bytes in
       let grows = answered.1 in
       record {
         within = within_rest used size body so.within begins;
         bodies = so.bodies ++ body ∷ [];
         joined = so.joined ∙ ap (λ (l : List ℕ). frames_of g.header so.bodies ++ l) (begins.whole ∙ ap (λ (l : List ℕ). frame_of g.header body ++ l) behind)
-            ∙ sym (frames_more g.header so.bodies body (drop (used + size) bytes));
-        fit = fit_more g.header so.bodies body so.fit begins.fits;
+            ∙ sym (frames_more joins so.bodies body (drop (used + size) bytes));
+        fit = joins.fit g.header so.bodies (body ∷ []) so.fit (begins.fits, tt);
         answers = so.answers ++ grows.0;
         output = output_more g before so.bodies body so.answers grows.0 so.output (subst (λ (b : Books). IsGuardedAnswer g b body grows.0) so.books grows.1);
         waits = grows.2 ∙ ap (λ (l : List ℕ). l ++ grows.0) so.waits ∙ append_assoc old so.answers grows.0;
         books = subst (λ (b : Books). after ≡ b) (books_more g before so.bodies body law)
             (subst (λ (b : Books). after ≡ books_after_bodies g.table b (entering_of g body)) so.books answered.0);
       }
-
-  -- it stops there
-  pub stops_there : (mid after : Books) (used : ℕ) (new last : List ℕ) (why : Option PeerFault) → FramesSoFar g before mid bytes old new used → last ≡ new
-      → StopsGuarded g (drop used bytes) [] (books_change mid after) why → TakesFrames g (replying before old) (replying after last) bytes (record { used = used; stopped = why })
-  stops_there mid after used new last why so same stops = record {
-    within = so.within;
-    bodies = so.bodies;
-    joined = so.joined;
-    fit = so.fit;
-    answers = so.answers;
-    output = so.output;
-    waits = same ∙ so.waits;
-    stops = subst (λ (b : Books). StopsGuarded g (drop used bytes) [] (books_change b after) why) so.books stops;
-  }
-
-  -- memory ran out at a frame
-  pub no_memory_there : (mid after : Books) (used size : ℕ) (body new last : List ℕ) → FramesSoFar g before mid bytes old new used → last ≡ new
-      → Begins g.header (drop used bytes) body size → EntersOrNot g mid after body → TakesFrames g (replying before old) (replying after last) bytes (record { used = used; stopped = Some Memory })
-  no_memory_there mid after used size body new last so same begins enters =
-      stops_there mid after used new last (Some Memory) so same (inr (body, drop size (drop used bytes), begins.whole, begins.fits, enters))
 
 -- ---- what is held
 
@@ -161,31 +140,6 @@ module _ (g : Guard) (held waiting bytes : List ℕ) (before after : Books) wher
     stops = inl (same ∙ sym (without g.table));
   }
 
-  behind_all : (rest : List ℕ) (mid : Books) (why : Option PeerFault) → StopsGuarded g rest [] (books_change mid after) why → StopsGuarded g rest (drop (length bytes) bytes) (books_change mid after) why
-  behind_all rest mid None stops = (drop-length bytes, stops.1, stops.2)
-  behind_all rest mid (Some BadHeader) stops = (drop-length bytes, stops.1, stops.2)
-  behind_all rest mid (Some Memory) stops = stops
-
-  -- they are held, and the whole frames of all are taken
-  pub holds_all : (now kept grown : List ℕ) (taken : Turned) (size : ℕ) → now ≡ held ++ bytes → kept ≡ drop taken.used now → size ≡ length bytes → TakesFrames g (replying before waiting) (replying after grown) now taken
-      → TakesGuarded g (one_peer held before waiting) (one_peer kept after grown) bytes
-      (record { used = size; stopped = taken.stopped })
-  holds_all now kept grown taken size now_is kept_is size_is took =
-      let all : TakesGuarded g (one_peer held before waiting) (one_peer kept after grown) bytes
-      (record { used = length bytes; stopped = taken.stopped }) = record {
-        within = omega arith;
-        bodies = took.bodies;
-        joined = ap (λ (l : List ℕ). held ++ l) (take-length bytes) ∙ sym now_is ∙ took.joined ∙ ap (λ (l : List ℕ). frames_of g.header took.bodies ++ l) (sym kept_is);
-        fit = took.fit;
-        answers = took.answers;
-        output = took.output;
-        waits = took.waits;
-        stops = behind_all kept (books_after_guarded g before took.bodies) taken.stopped
-            (subst (λ (l : List ℕ). StopsGuarded g l [] (books_change (books_after_guarded g before took.bodies) after) taken.stopped) (sym kept_is) took.stops);
-      } in
-      subst (λ (n : ℕ). TakesGuarded g (one_peer held before waiting) (one_peer kept after grown) bytes
-      (record { used = n; stopped = taken.stopped })) (sym size_is) all
-
 -- ---- what enters
 
 stops_enter : (g : Guard) (before after : Books) (bodies : List (List ℕ)) (held rest : List ℕ) (why : Option PeerFault) → BodiesGoOn
@@ -199,7 +153,3 @@ stops_enter g before after bodies held rest (Some Memory) law (inr wants) = one_
 pub frames_enter : (g : Guard) (before after : Books) (bytes old new : List ℕ) (taken : Turned) → BodiesGoOn → TakesFrames g (replying before old) (replying after new) bytes taken
     → EntersAllowed g.acquirers g.table before after
 frames_enter g before after bytes old new taken law took = stops_enter g before after took.bodies (drop taken.used bytes) [] taken.stopped law took.stops
-
--- nothing
-pub nothing_enters : (acquirers : List ℕ) (t : Layout) (before after : Books) → StaysWithout before → after ≡ before → EntersAllowed acquirers t before after
-nothing_enters acquirers t before after without same = record { bodies = []; allowed = tt; entered = same ∙ sym (without t) }

@@ -23,7 +23,7 @@ use iso_links::Terms;
 use iso_order::codes::INVALID_TRANSACTION;
 use iso_order::{Answer, NoMemory, TxKey, Verdict, order_of, respond_into};
 use iso_parts::Mti;
-use iso_wire::laws::{are_bytes, reads_spellings};
+use iso_wire::laws::{are_bytes, frames, reads_spellings};
 use iso_wire::{
     Header, Message, UnpackCause, UnpackFault, append_frame, append_message, unpack_into,
 };
@@ -186,6 +186,10 @@ fn answer_own(
         ⊎ (host.new ≡ books_after_bodies link.now.table host.old (message.now ∷ []))) }
     ensures unchanged { OnErr result (waiting.new.items ≡ waiting.old.items) }
 {
+    // the laws that a body alone is a stream of one, and that a header takes as many bytes, whatever it counts, for the
+    // prover
+    one_journal(host.issuer());
+    frames();
     rooms.answer.clear();
     let handled = host.answer(link, message, &mut rooms.answer)?;
     let size = link.header().size();

@@ -7,11 +7,11 @@ ghost use Rattle.iso_guard.specs.Taking.{TakesGuarded, guarded_at};
 use crate::came::Noting;
 use crate::guard::Rooms;
 use crate::taking::{drop_front, take_held};
-use iso_durable::laws::orders_enter;
 use iso_durable::{Log, LogFailed};
 use iso_host::Link;
 use iso_host::laws::one_journal;
 use iso_links::Terms;
+use iso_peers::laws::stays_in_step;
 use iso_peers::{DurableHost, Turned};
 use std::alloc::Global;
 use std::marker::Model;
@@ -101,10 +101,9 @@ impl<'l> GuardedPeer<'l> {
         ensures step { IsInStep L.is_ready L.synced L.pending host.old
             → IsInStep L.is_ready L.synced L.pending host.new }
     {
-        // the law that orders that come are entered, for the prover
-        orders_enter();
+        // the laws that a host stays in step with its log, and that bodies have one journal, for the prover
+        stays_in_step(host);
         one_journal(host.issuer());
-        let _entered = host.issuer().len();
         if host.has_failed {
             return Err(LogFailed);
         }

@@ -11,6 +11,7 @@ use iso_host::laws::one_journal;
 use iso_host::{Host, Link, PeerFault};
 use iso_links::Terms;
 use iso_peers::Turned;
+use iso_wire::laws::frames;
 use iso_wire::{Framed, unframe};
 
 /// Takes so many bytes away from the front.
@@ -44,8 +45,8 @@ fn take_frames<N: Noting>(
         (replying host.old waiting.old.items) (replying host.new waiting.new.items)
         bytes.now result }
 {
-    // the law that bodies have one journal, for the prover
-    one_journal(host.issuer());
+    one_journal(host.issuer()); // for the prover: bodies have one journal
+    frames(); // for the prover: frames come behind others
     let mut used = 0;
     'frames: loop {
         match unframe(link.header(), &bytes[used..]) {

@@ -8,12 +8,11 @@ use Rattle.iso_wire.specs.Contents.{Contents}
 use Rattle.iso_order.specs.Outcome.{Outcome}
 use Rattle.iso_order.specs.Response.{response}
 use Rattle.iso_order.specs.Verdict.{verdict}
-use Rattle.iso_order.specs.declared.verdict.Verdict.TheVariants as asks
 use Rattle.iso_issuer.specs.Books.{Books}
 use Rattle.iso_issuer.specs.Laws.{books_after}
 use Rattle.iso_host.specs.Asking.{asked_of, message_in, orders_in, whole_by}
 use Rattle.iso_host.specs.Output.{IsAnswerTo, IsFramed, outcome_of, response_with}
-use Rattle.iso_host.specs.Hosting.{AnswersMessage, Answers, IsBodyFault, IsHandled, IsHandledBy, replying}
+use Rattle.iso_host.specs.Hosting.{AnswersMessage, IsBodyFault, IsHandled, IsHandledBy, replying}
 use Rattle.iso_host.specs.Links.{agreed}
 use Rattle.iso_host.specs.Handling.{EntersOrKeeps}
 use Rattle.iso_host.specs.declared.handled.BodyFault.{BodyFault}
@@ -26,13 +25,6 @@ pub answers_none : (t : Layout) (h : Header) (books : Books) (message : Option C
 unfolding IsAnswerTo
 answers_none t h books message out none kept =
     subst (AnswersMessage (agreed t h) (replying books out) (replying books out)) (sym none) (sym kept, ([], refl, sym (append-nil out)))
-
--- the message that the whole body is
-pub answers_some : (t : Layout) (h : Header) (old new : Books) (body : List ℕ) (m : Contents) (out grown : List ℕ) → message_in t body ≡ Some m → AnswersMessage (agreed t h) (replying old out) (replying new grown) (Some m) → Answers (agreed t h) (replying old out) (replying new grown) body
-answers_some t h old new body m out grown is answers = subst (AnswersMessage (agreed t h) (replying old out) (replying new grown)) (sym is) answers
-
-pub enters_some : (t : Layout) (h : Header) (old new : Books) (body : List ℕ) (m : Contents) → message_in t body ≡ Some m → EntersOrKeeps t h old new (Some m) → EntersOrKeeps t h old new (message_in t body)
-enters_some t h old new body m is enters = subst (EntersOrKeeps t h old new) (sym is) enters
 
 pub handled_some : (t : Layout) (books : Books) (body : List ℕ) (m : Contents) (handled : Handled) → message_in t body ≡ Some m → IsHandledBy books (verdict m) handled → IsHandled t books body handled
 unfolding IsHandled

@@ -33,5 +33,3 @@ bodies_spelled reads t m body good bytes =
       (λ found. subst (Spelling t m) whole_body (law.0 (takes_all size (message_at t body) m found)).1),
       (λ spelled. ap (whole_by size) (law.1 (omega arith, subst (Spelling t m) (sym whole_body) spelled)) ∙ is_there size m),
     )
-
--- ---- pieces

@@ -1,9 +1,23 @@
--- Room for a header, and a body behind it.
-use Rattle.std.proofs.Common.{◌≡◌, ℕ, ◌≤◌, List, ◌++◌, length, take, drop, replicate, sym, ap, ◌∙◌, arith, append_assoc}
+-- A frame behind others, and room for a header with a body behind it.
+use Rattle.std.proofs.Common.{◌≡◌, ℕ, ◌≤◌, List, [], ◌∷◌, ◌++◌, length, take, drop, replicate, sym, ap, ◌∙◌, arith, append_assoc, append-nil}
 use Rattle.std.proofs.lemmas.List.{take_at, drop_at, length-replicate}
 use Rattle.iso_wire.specs.declared.header.Header.{Header}
 use Rattle.iso_wire.specs.declared.header.Header.TheVariants.{Binary2, Ascii4, Bcd2}
-use Rattle.iso_wire.specs.Framing.{header_size, largest, frame_of}
+use Rattle.iso_wire.specs.FrameLaws.{FrameLaws}
+use Rattle.iso_wire.specs.Framing.{header_size, largest, frame_of, frames_of, AllFit}
+
+-- ---- one frame more
+
+module _ (laws : FrameLaws) (h : Header) (bodies : List (List ℕ)) (body : List ℕ) where
+  pub frames_more : (rest : List ℕ) → frames_of h (bodies ++ body ∷ []) ++ rest ≡ frames_of h bodies ++ (frame_of h body ++ rest)
+  frames_more rest =
+      ap (λ (l : List ℕ). l ++ rest) (laws.joined h bodies (body ∷ [])) ∙ append_assoc (frames_of h bodies) (frame_of h body ++ []) rest
+      ∙ ap (λ (l : List ℕ). frames_of h bodies ++ (l ++ rest)) (append-nil (frame_of h body))
+
+  pub fit_more : AllFit h bodies → length body ≤ largest h → AllFit h (bodies ++ body ∷ [])
+  fit_more fit few = laws.fit h bodies (body ∷ []) fit (few, tt)
+
+-- ---- room for a header
 
 -- each header can count 9,999 bytes
 pub short_fits : (h : Header) (n : ℕ) → n ≤ 9999 → n ≤ largest h

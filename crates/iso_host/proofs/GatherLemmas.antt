@@ -1,5 +1,5 @@
 -- A body of which some bytes came.
-use Rattle.std.proofs.Common.{◌≡◌, ◌≢◌, ℕ, ◌+◌, ◌<◌, ◌≤◌, List, [], ◌++◌, length, length-append, Option, Some, None, Err, sym, ap, subst, ◌∙◌, append_assoc, arith}
+use Rattle.std.proofs.Common.{◌≡◌, ◌≢◌, ℕ, zero, suc, ◌<◌, ◌≤◌, List, [], ◌∷◌, ◌++◌, length, length-append, Option, Some, None, Err, sym, ap, subst, ◌∙◌, arith}
 use Rattle.iso_wire.specs.declared.fault.UnpackFault.{UnpackFault}
 use Rattle.iso_wire.specs.declared.fault.UnpackCause.TheVariants.{Short}
 use Rattle.iso_table.specs.Layout.{Layout, AreGood}
@@ -8,7 +8,6 @@ use Rattle.iso_wire.specs.Unpacker.{Feeding}
 use Rattle.iso_wire.specs.Reading.{message_at, whole}
 use Rattle.iso_wire.specs.ReadingLaws.{IsShort, ReadingStays, ReadsSpellings}
 use Rattle.iso_wire.specs.Spelling.{AreBytes}
-use Rattle.iso_wire.proofs.Bytes.{bytes_append}
 use Rattle.iso_host.specs.Asking.{message_in, whole_by}
 use Rattle.iso_host.specs.Gathering.{Holds, IsGathered, IsLost, ReadsBody}
 use Rattle.iso_host.specs.Hosting.{IsBodyFault}
@@ -30,17 +29,10 @@ lost_behind stays t b m n end good bytes read within same rest some = (
 
 -- ---- further bytes
 
--- of a body that is no message
-pub more_lost : (u : Feeding) (part piece : List ℕ) (fault : BodyFault) → IsGathered u part (Some fault) → AreBytes piece → IsGathered u (part ++ piece) (Some fault)
-more_lost u part piece fault gathered bytes = record {
-  good = gathered.good;
-  bytes = bytes_append part piece gathered.bytes bytes;
-  holds = (
-    gathered.holds.0,
-    gathered.holds.1,
-    λ rest some. subst (λ (l : List ℕ). IsBodyFault u.table l fault) (sym (append_assoc part piece rest)) (gathered.holds.2 (piece ++ rest) (omega (arith, some, length-append piece rest))),
-  );
-}
+pub bytes_append : (a b : List ℕ) → AreBytes a → AreBytes b → AreBytes (a ++ b)
+bytes_append [] b first second i = second i
+bytes_append (x ∷ a) b first second zero = first 0
+bytes_append (x ∷ a) b first second (suc i) = bytes_append a b (λ k. first (suc k)) second i
 
 -- of one that may be a message
 pub more_fed : (u new : Feeding) (part piece : List ℕ) (told : Option BodyFault) → IsGathered u part None → new.table ≡ u.table → AreBytes piece → Holds new (u.taken ++ piece) told → IsGathered new (part ++ piece) told

@@ -7,7 +7,7 @@ use Rattle.iso_issuer.specs.Journal.{firsts}
 use Rattle.iso_issuer.specs.Laws.{FirstsGoOn, books_after}
 use Rattle.iso_host.specs.Asking.{asked_of, orders_in, orders_of}
 use Rattle.iso_host.specs.Entering.{books_after_bodies, BodiesGoOn, StaysWithout}
-use Rattle.iso_host.specs.Handling.{books_after_body}
+use Rattle.iso_host.specs.Handling.{books_after_body, BodyAlone}
 
 orders_of_more : (t : Layout) (bodies : List (List ℕ)) (body : List ℕ) → orders_of t (bodies ++ body ∷ []) ≡ orders_of t bodies ++ orders_in (asked_of t body)
 orders_of_more t [] body = append-nil (orders_in (asked_of t body))
@@ -44,6 +44,11 @@ bodies_go_on go_on t books earlier later =
     ∙ ap (λ (l : List Instruction). take books.limit (firsts l))
     (append_assoc books.orders (orders_of t earlier) (orders_of t later)
     ∙ ap (λ (l : List Instruction). books.orders ++ l) (sym (orders_of_append t earlier later))))
+
+-- one body is a stream of it alone
+pub body_alone : BodyAlone
+unfolding books_after_bodies
+body_alone t books body = ap (books_after books) (sym (append-nil (orders_in (asked_of t body))))
 
 -- none leave the books as they are
 pub stays_without : (books : Books) → books_after books [] ≡ books → StaysWithout books

@@ -1,13 +1,13 @@
 mod AnswerLemmas
 mod BodyLemmas
-pub mod FrameLemmas
+mod FrameLemmas
 mod GatherLemmas
 mod JournalLemmas
 mod NextLemmas
-pub mod OutputLemmas
+mod OutputLemmas
 mod PeerLemmas
 mod Running
-pub mod ServeLemmas
+mod ServeLemmas
 mod ShareLemmas
 mod StreamLemmas
 mod Walks

@@ -10,7 +10,7 @@ use Rattle.iso_issuer.specs.Books.{Books}
 use Rattle.iso_host.specs.Entering.{books_after_bodies}
 use Rattle.iso_host.specs.Asking.{message_in}
 use Rattle.iso_host.specs.Links.{agreed}
-use Rattle.iso_host.specs.Output.{response_to, IsFramed, IsAnswer, IsAnswerTo, IsOutputFrom, IsOutput, OutputOnce}
+use Rattle.iso_host.specs.Output.{response_to, IsFramed, IsAnswer, IsAnswerTo, IsOutputFrom, IsOutput, NoOutput, OutputGoesOn, OutputOnce}
 use Rattle.iso_host.specs.Serving.{front, IsPrefix}
 
 -- ---- the stream
@@ -40,12 +40,11 @@ output_from_more t h books earlier (x ∷ xs) body out first is answer =
       ap (λ (l : List ℕ). l ++ first) is.4 ∙ append_assoc is.0 is.1 first,
     )
 
-pub output_none : (t : Layout) (h : Header) (books : Books) → IsOutput t h books [] []
+pub output_none : NoOutput
 unfolding IsOutput
 output_none t h books = refl
 
-pub output_more : (t : Layout) (h : Header) (books : Books) (bodies : List (List ℕ)) (body out first : List ℕ)
-    → IsOutput t h books bodies out → IsAnswer t h (books_after_bodies t books bodies) body first → IsOutput t h books (bodies ++ body ∷ []) (out ++ first)
+pub output_more : OutputGoesOn
 unfolding IsOutput
 output_more t h books bodies body out first is answer = output_from_more t h books [] bodies body out first is answer
 

@@ -6,8 +6,8 @@ use Rattle.std.proofs.lemmas.Bool.{eqb-true, eq-eqb, leb-true}
 use Rattle.iso_table.specs.Layout.{Layout}
 use Rattle.iso_wire.specs.declared.header.Header.{Header}
 use Rattle.iso_wire.specs.declared.header.Header.TheVariants.{Binary2, Ascii4, Bcd2}
+use Rattle.iso_wire.specs.FrameLaws.{FrameLaws}
 use Rattle.iso_wire.specs.Framing.{header_of, header_size, frame_of, largest, NeedsMore, is_bad_header, BadStays}
-use Rattle.iso_wire.proofs.FrameHeaders.{length-header_of}
 use Rattle.iso_issuer.specs.Books.{Books}
 use Rattle.iso_host.specs.Asking.{message_in}
 use Rattle.iso_host.specs.Beginning.{head_of, held_of, IsBegun, IsInBody, IsInHeader}
@@ -30,12 +30,12 @@ size_least Ascii4 = omega arith
 size_least Bcd2 = omega arith
 
 -- bytes that are fewer than a header need more
-pub short_needs : (h : Header) (b : List ℕ) → length b < header_size h → NeedsMore h b
-short_needs h b short = record { no_frame = none; no_fault = fault h short }
+short_needs : FrameLaws → (h : Header) (b : List ℕ) → length b < header_size h → NeedsMore h b
+short_needs laws h b short = record { no_frame = none; no_fault = fault h short }
   where
     none : (body more : List ℕ) → length body ≤ largest h → b ≡ frame_of h body ++ more → ⊥
     none body more fits is =
-        omega (arith, short, ap length is, length-append (frame_of h body) more, length-append (header_of h (length body)) body, length-header_of h (length body))
+        omega (arith, short, ap length is, length-append (frame_of h body) more, length-append (header_of h (length body)) body, laws.header h (length body))
 
     few : (n : ℕ) (t : Bool) → length b < n → (leb n (length b) && t) ≡ false
     few n t less = by_test (leb n (length b)) refl
@@ -52,8 +52,8 @@ short_needs h b short = record { no_frame = none; no_fault = fault h short }
 -- ---- a frame that lies whole at the front
 
 -- its header is there
-pub has_header : (h : Header) (bytes : List ℕ) (n : ℕ) → take (header_size h) bytes ≡ header_of h n → header_size h ≤ length bytes
-has_header h bytes n header = omega (arith, ap length header, length-header_of h n, length-take (header_size h) bytes)
+has_header : FrameLaws → (h : Header) (bytes : List ℕ) (n : ℕ) → take (header_size h) bytes ≡ header_of h n → header_size h ≤ length bytes
+has_header laws h bytes n header = omega (arith, ap length header, laws.header h n, length-take (header_size h) bytes)
 
 module _ (h : Header) (bytes : List ℕ) (n : ℕ) (header : take (header_size h) bytes ≡ header_of h n) (fits : n ≤ largest h) (here : n ≤ length bytes - header_size h) where
   body_size : length (take n (drop (header_size h) bytes)) ≡ n
@@ -64,14 +64,14 @@ module _ (h : Header) (bytes : List ℕ) (n : ℕ) (header : take (header_size h
       let body = take n (drop (header_size h) bytes) in
       take-add (header_size h) n bytes ∙ ap (λ (l : List ℕ). l ++ body) (header ∙ ap (header_of h) (sym body_size))
 
-  pub takes_whole : (t : Layout) (held kept : List ℕ) (old new : Books) (out grown : List ℕ) (used : ℕ) (handled : Handled) → held ≡ [] → kept ≡ [] → used ≡ header_size h + n
+  pub takes_whole : FrameLaws → (t : Layout) (held kept : List ℕ) (old new : Books) (out grown : List ℕ) (used : ℕ) (handled : Handled) → held ≡ [] → kept ≡ [] → used ≡ header_size h + n
       → Answers (agreed t h) (replying old out) (replying new grown) (take n (drop (header_size h) bytes)) → IsHandled t old (take n (drop (header_size h) bytes)) handled
       → Takes (agreed t h) (one_peer held old out) (one_peer kept new grown) bytes (record { used = used; handled = Some handled })
-  takes_whole t held kept old new out grown used handled none none_kept all answers tells =
+  takes_whole laws t held kept old new out grown used handled none none_kept all answers tells =
       let body = take n (drop (header_size h) bytes) in
       let front : held ++ take used bytes ≡ frame_of h body = ap (λ (l : List ℕ). l ++ take used bytes) none ∙ ap (λ (k : ℕ). take k bytes) all ∙ whole_frame in
       record {
-        within = omega (arith, all, here, has_header h bytes n header);
+        within = omega (arith, all, here, has_header laws h bytes n header);
         piece = (body, front, omega (arith, body_size, fits), none_kept, answers, tells);
         some = λ _ e. omega (arith, e, all, size_least h);
       }
@@ -171,8 +171,8 @@ pub none_of : (l : List ℕ) → length l ≡ 0 → l ≡ []
 none_of [] e = refl
 none_of (x ∷ l) e = absurd (omega arith)
 
-pub between : (h : Header) (b : Begun) (part : List ℕ) (n : ℕ) → IsBegun h b part → n ≡ length (head_of b) → (eqb n 0 ≡ true → held_of b part ≡ []) × (held_of b part ≡ [] → eqb n 0 ≡ true)
-between h b part n begun same = (
+pub between : FrameLaws → (h : Header) (b : Begun) (part : List ℕ) (n : ℕ) → IsBegun h b part → n ≡ length (head_of b) → (eqb n 0 ≡ true → held_of b part ≡ []) × (held_of b part ≡ [] → eqb n 0 ≡ true)
+between laws h b part n begun same = (
   λ is. by_left b.left refl (eqb-true n 0 is),
   λ none. eq-eqb n 0 (omega (arith, same, ap length none, length-append (head_of b) part)),
 )
@@ -181,14 +181,14 @@ between h b part n begun same = (
     by_left zero none is = ap (λ (l : List ℕ). head_of b ++ l) (begun.outside none).none ∙ append-nil (head_of b) ∙ none_of (head_of b) (omega (arith, same, is))
     by_left (suc k) some is =
         let inside = begun.inside (omega (arith, some)) in
-        absurd (omega (arith, same, is, ap length inside.head, length-header_of h (length part + b.left), size_least h))
+        absurd (omega (arith, same, is, ap length inside.head, laws.header h (length part + b.left), size_least h))
 
 -- ---- no byte
 
-pub takes_none : (t : Layout) (h : Header) (b : Begun) (books : Books) (bytes out : List ℕ) → IsInHeader h b [] → bytes ≡ [] → Takes (agreed t h) (one_peer (head_of b) books out) (one_peer (head_of b) books out) bytes (record { used = 0; handled = None })
-takes_none t h b books bytes out header none = record {
+pub takes_none : FrameLaws → (t : Layout) (h : Header) (b : Begun) (books : Books) (bytes out : List ℕ) → IsInHeader h b [] → bytes ≡ [] → Takes (agreed t h) (one_peer (head_of b) books out) (one_peer (head_of b) books out) bytes (record { used = 0; handled = None })
+takes_none laws t h b books bytes out header none = record {
   within = omega arith;
-  piece = (sym (append-nil (head_of b)), short_needs h (head_of b) (omega (arith, header.short, length-take b.count b.head)), refl, refl);
+  piece = (sym (append-nil (head_of b)), short_needs laws h (head_of b) (omega (arith, header.short, length-take b.count b.head)), refl, refl);
   some = λ there _. there none;
 }
 

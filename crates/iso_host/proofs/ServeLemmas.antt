@@ -8,11 +8,12 @@ use Rattle.std.specs.Io.KnownBytes.{Appends, Consumes, Keeps, IsAtEnd, prepend_k
 use Rattle.iso_table.specs.Layout.{Layout}
 use Rattle.iso_wire.specs.declared.header.Header.{Header}
 use Rattle.iso_wire.specs.declared.header.Header.TheVariants.{Binary2, Ascii4, Bcd2}
+use Rattle.iso_wire.specs.FrameLaws.{FrameLaws}
 use Rattle.iso_wire.specs.Framing.{frame_of, frames_of, largest, NoFrame, is_bad_header, BadIsNoFrame, BadStays}
-use Rattle.iso_wire.proofs.FrameSplits.{frames_more, fit_more}
 use Rattle.iso_order.specs.declared.verdict.Verdict.{Verdict}
 use Rattle.iso_issuer.specs.Books.{Books}
 use Rattle.iso_issuer.specs.Laws.{FirstsGoOn, books_after}
+use Rattle.iso_host.proofs.FrameLemmas.{frames_more, fit_more}
 use Rattle.iso_host.proofs.JournalLemmas.{books_more, books_none}
 use Rattle.iso_host.proofs.OutputLemmas.{output_none, output_more, output_front, front_more}
 use Rattle.iso_host.proofs.Running.{AnswersPart, AnswersWhole, Going, Running}
@@ -113,7 +114,7 @@ module _ (l : Agreed) (start now : Sending) (bodies : List (List ℕ)) (serves :
   answer_more : (body answer : List ℕ) → IsAnswer l.table l.header now.books body answer → IsAnswer l.table l.header (books_after_bodies l.table start.books bodies) body answer
   answer_more body answer is = subst (λ (b : Books). IsAnswer l.table l.header b body answer) serves.books is
 
-  module _ (go_on : FirstsGoOn) where
+  module _ (go_on : FirstsGoOn) (joins : FrameLaws) where
     -- the journal goes on by the body's order
     entered_more : (new : Books) (body : List ℕ) → new ≡ books_after_body l.table now.books body → new ≡ books_after_bodies l.table start.books (bodies ++ body ∷ [])
     entered_more new body enters = enters ∙ ap (λ (b : Books). books_after_body l.table b body) serves.books ∙ sym (books_more go_on l.table start.books bodies body)
@@ -123,7 +124,7 @@ module _ (l : Agreed) (start now : Sending) (bodies : List (List ℕ)) (serves :
     read_more next body taken =
         let frames : (frames_of l.header bodies ++ []) ++ frame_of l.header body ≡ frames_of l.header (bodies ++ body ∷ []) ++ [] =
         append_assoc (frames_of l.header bodies) [] (frame_of l.header body) ∙ ap (λ (k : List ℕ). frames_of l.header bodies ++ k) (sym (append-nil (frame_of l.header body)))
-        ∙ sym (frames_more l.header bodies body []) in
+        ∙ sym (frames_more joins l.header bodies body []) in
         subst (Consumes start.unread next) frames (Consumes-trans start.unread now.unread next _ _ serves.read taken)
 
     -- one more body is handled and answered
@@ -131,7 +132,7 @@ module _ (l : Agreed) (start now : Sending) (bodies : List (List ℕ)) (serves :
         → AnswersWhole l now.books new (message_in l.table body) now.writer after → Serves l (standing_of start) (standing next after.bytes new) (bodies ++ body ∷ []) []
     serves_more next after new body taken fits whole = record {
       read = read_more next body taken;
-      fit = fit_more l.header bodies body serves.fit fits;
+      fit = fit_more joins l.header bodies body serves.fit fits;
       books = entered_more new body whole.entered;
       bytes = serves.bytes ++ whole.bytes;
       output = output_more l.table l.header start.books bodies body serves.bytes whole.bytes serves.output (answer_more body whole.bytes whole.answer);
@@ -148,7 +149,7 @@ module _ (l : Agreed) (start now : Sending) (bodies : List (List ℕ)) (serves :
       record {
         read = subst (Consumes start.unread left) (ap (λ (k : List ℕ). k ++ window) (append-nil (frames_of l.header (bodies ++ body ∷ []))))
             (taken_behind start.unread left (frames_of l.header (bodies ++ body ∷ []) ++ []) window (read_more (prepend_known window left) body taken));
-        fit = fit_more l.header bodies body serves.fit fits;
+        fit = fit_more joins l.header bodies body serves.fit fits;
         books = entered_more new body enters;
         bytes = serves.bytes ++ take some.count answer;
         answers = Appends-trans start.writer.bytes now.writer.bytes after.bytes _ _ serves.answers some.appends;
@@ -173,8 +174,8 @@ module _ (l : Agreed) (start now : Sending) (bodies : List (List ℕ)) (serves :
       bodies ++ body ∷ [],
       more,
       record {
-        read = subst (Consumes start.unread left) (ap (λ (k : List ℕ). frames_of l.header bodies ++ k) is ∙ sym (frames_more l.header bodies body more)) (read_part left window part taken);
-        fit = fit_more l.header bodies body serves.fit fits;
+        read = subst (Consumes start.unread left) (ap (λ (k : List ℕ). frames_of l.header bodies ++ k) is ∙ sym (frames_more joins l.header bodies body more)) (read_part left window part taken);
+        fit = fit_more joins l.header bodies body serves.fit fits;
         books = entered_more new body enters;
         bytes = serves.bytes;
         answers = serves.answers;
@@ -191,33 +192,33 @@ module _ (l : Agreed) (start now : Sending) (bodies : List (List ℕ)) (serves :
 
 module _ (l : Agreed) (start now : Sending) (report : Report) (going : Going l start now report) where
   -- answering a body ends the call
-  stops_answering : FirstsGoOn → (left : Option (List ℕ)) (after : Stream) (window : List ℕ) (new : Books) (body : List ℕ) → Consumes now.unread (prepend_known window left) (frame_of l.header body)
+  stops_answering : FirstsGoOn → FrameLaws → (left : Option (List ℕ)) (after : Stream) (window : List ℕ) (new : Books) (body : List ℕ) → Consumes now.unread (prepend_known window left) (frame_of l.header body)
       → length body ≤ largest l.header → AnswersPart l now.books new (message_in l.table body) now.writer after → LastWaits l start (sending left after new)
-  stops_answering go_on left after window new body taken fits part = stops_after l start now going.bodies going.serves go_on left after window new body going.flushed taken fits part
+  stops_answering go_on joins left after window new body taken fits part = stops_after l start now going.bodies going.serves go_on joins left after window new body going.flushed taken fits part
 
-  pub stop_at : FirstsGoOn → (T : Type 0) (left : Option (List ℕ)) (after : Stream) (window : List ℕ) (new : Books) (before turns : ℕ) (body : List ℕ) (fault : ServeFault)
+  pub stop_at : FirstsGoOn → FrameLaws → (T : Type 0) (left : Option (List ℕ)) (after : Stream) (window : List ℕ) (new : Books) (before turns : ℕ) (body : List ℕ) (fault : ServeFault)
       → Consumes now.unread (prepend_known window left) (frame_of l.header body) → length body ≤ largest l.header
       → AnswersPart l now.books new (message_in l.table body) now.writer after → SpendsOnWrite {T = T} now.writer.counts after.counts before turns (Err fault)
       → Leaves l (standing_of start) (standing left after.bytes new) (Err fault)
-  stop_at go_on T left after window new before turns body Read taken fits part spent = absurd spent
-  stop_at go_on T left after window new before turns body BadHeader taken fits part spent = absurd spent
-  stop_at go_on T left after window new before turns body CutFrame taken fits part spent = absurd spent
-  stop_at go_on T left after window new before turns body Write taken fits part spent = let waits = stops_answering go_on left after window new body taken fits part in (waits.0, waits.1, waits.2)
-  stop_at go_on T left after window new before turns body TooManyTurns taken fits part spent = let waits = stops_answering go_on left after window new body taken fits part in (waits.0, waits.1, waits.2)
-  stop_at go_on T left after window new before turns body Memory taken fits part spent = let waits = stops_answering go_on left after window new body taken fits part in (waits.0, waits.1, waits.2)
+  stop_at go_on joins T left after window new before turns body Read taken fits part spent = absurd spent
+  stop_at go_on joins T left after window new before turns body BadHeader taken fits part spent = absurd spent
+  stop_at go_on joins T left after window new before turns body CutFrame taken fits part spent = absurd spent
+  stop_at go_on joins T left after window new before turns body Write taken fits part spent = let waits = stops_answering go_on joins left after window new body taken fits part in (waits.0, waits.1, waits.2)
+  stop_at go_on joins T left after window new before turns body TooManyTurns taken fits part spent = let waits = stops_answering go_on joins left after window new body taken fits part in (waits.0, waits.1, waits.2)
+  stop_at go_on joins T left after window new before turns body Memory taken fits part spent = let waits = stops_answering go_on joins left after window new body taken fits part in (waits.0, waits.1, waits.2)
 
   -- and what then waits for a flush
-  pub waits_at : FirstsGoOn → (T : Type 0) (left : Option (List ℕ)) (after : Stream) (window : List ℕ) (new : Books) (before turns : ℕ) (body : List ℕ) (fault : ServeFault)
+  pub waits_at : FirstsGoOn → FrameLaws → (T : Type 0) (left : Option (List ℕ)) (after : Stream) (window : List ℕ) (new : Books) (before turns : ℕ) (body : List ℕ) (fault : ServeFault)
       → Consumes now.unread (prepend_known window left) (frame_of l.header body) → length body ≤ largest l.header
       → AnswersPart l now.books new (message_in l.table body) now.writer after → SpendsOnWrite {T = T} now.writer.counts after.counts before turns (Err fault)
       → Flushes l start (sending left after new) (Err fault)
-  waits_at go_on T left after window new before turns body Read taken fits part spent = absurd spent
-  waits_at go_on T left after window new before turns body BadHeader taken fits part spent = absurd spent
-  waits_at go_on T left after window new before turns body CutFrame taken fits part spent = absurd spent
-  waits_at go_on T left after window new before turns body Memory taken fits part spent =
+  waits_at go_on joins T left after window new before turns body Read taken fits part spent = absurd spent
+  waits_at go_on joins T left after window new before turns body BadHeader taken fits part spent = absurd spent
+  waits_at go_on joins T left after window new before turns body CutFrame taken fits part spent = absurd spent
+  waits_at go_on joins T left after window new before turns body Memory taken fits part spent =
       subst (IsFlushed start.writer.counts) (sym spent) (flushed_so start.writer.counts now.writer.counts going.serves.bytes going.flushed)
-  waits_at go_on T left after window new before turns body Write taken fits part spent = stops_answering go_on left after window new body taken fits part
-  waits_at go_on T left after window new before turns body TooManyTurns taken fits part spent = inr (stops_answering go_on left after window new body taken fits part)
+  waits_at go_on joins T left after window new before turns body Write taken fits part spent = stops_answering go_on joins left after window new body taken fits part
+  waits_at go_on joins T left after window new before turns body TooManyTurns taken fits part spent = inr (stops_answering go_on joins left after window new body taken fits part)
 
   -- the input ends between two frames
   pub ends_whole : (left : Option (List ℕ)) (window : List ℕ) (new : Books) → Keeps now.unread (prepend_known window left) → window ≡ [] → IsAtEnd left → new ≡ now.books
@@ -257,26 +258,26 @@ module _ (l : Agreed) (start now : Sending) (report : Report) (going : Going l s
   stop_inside bad stays before after Write same ends = absurd ends
 
   -- the next frame doesn't come to its end, or its body isn't answered
-  pub stop_before : FirstsGoOn → BadIsNoFrame → BadStays → (before after : Taking) (fault : ServeFault) → EndsBefore l before after fault → to_come before.input ≡ now.unread
+  pub stop_before : FirstsGoOn → FrameLaws → BadIsNoFrame → BadStays → (before after : Taking) (fault : ServeFault) → EndsBefore l before after fault → to_come before.input ≡ now.unread
       → before.host.books ≡ now.books → LeavesBehind after.input.reader.bytes after.host.books fault
-  stop_before go_on bad stays before after Read (inside, kept) same books =
+  stop_before go_on joins bad stays before after Read (inside, kept) same books =
       subst (λ (b : Books). LeavesBehind after.input.reader.bytes b Read) (sym (kept ∙ books)) (stop_inside bad stays before.input after.input Read same inside)
-  stop_before go_on bad stays before after CutFrame (inside, kept) same books =
+  stop_before go_on joins bad stays before after CutFrame (inside, kept) same books =
       subst (λ (b : Books). LeavesBehind after.input.reader.bytes b CutFrame) (sym (kept ∙ books)) (stop_inside bad stays before.input after.input CutFrame same inside)
-  stop_before go_on bad stays before after TooManyTurns (inside, kept) same books =
+  stop_before go_on joins bad stays before after TooManyTurns (inside, kept) same books =
       subst (λ (b : Books). LeavesBehind after.input.reader.bytes b TooManyTurns) (sym (kept ∙ books)) (stop_inside bad stays before.input after.input TooManyTurns same inside)
-  stop_before go_on bad stays before after BadHeader (part, taken, is_bad, kept) same books =
+  stop_before go_on joins bad stays before after BadHeader (part, taken, is_bad, kept) same books =
       let read = serves_part l start now going.bodies going.serves after.input.reader.bytes after.input.window part (subst (λ (o : Option (List ℕ)). Consumes o (to_come after.input) part) same taken) in
       subst (λ (b : Books). LeavesBehind after.input.reader.bytes b BadHeader) (sym (kept ∙ books))
       (going.bodies, part ++ after.input.window, read, bad l.header (part ++ after.input.window) is_bad, is_bad)
-  stop_before go_on bad stays before after Memory (part, taken, inl kept) same books =
+  stop_before go_on joins bad stays before after Memory (part, taken, inl kept) same books =
       subst (λ (b : Books). LeavesBehind after.input.reader.bytes b Memory) (sym (kept ∙ books))
       (stops_here l start now going.bodies going.serves after.input.reader.bytes after.input.window part (subst (λ (o : Option (List ℕ)). Consumes o (to_come after.input) part) same taken))
-  stop_before go_on bad stays before after Memory (part, taken, inr (body, more, is, fits, enters)) same books =
-      stops_unmade l start now going.bodies going.serves go_on after.input.reader.bytes after.input.window part body more after.host.books
+  stop_before go_on joins bad stays before after Memory (part, taken, inr (body, more, is, fits, enters)) same books =
+      stops_unmade l start now going.bodies going.serves go_on joins after.input.reader.bytes after.input.window part body more after.host.books
       (subst (λ (o : Option (List ℕ)). Consumes o (to_come after.input) part) same taken) is fits (enters.0 ∙ ap (λ (b : Books). books_after_body l.table b body) books)
       enters.1.0 (subst (λ (b : Books). IsAnswer l.table l.header b body enters.1.0) books enters.1.1)
-  stop_before go_on bad stays before after Write ends same books = absurd ends
+  stop_before go_on joins bad stays before after Write ends same books = absurd ends
 
 -- ---- the report
 
@@ -317,13 +318,13 @@ going_none l start report window kept none reports = record {
 }
 
 -- it goes on behind the frame
-pub going_more : FirstsGoOn → (l : Agreed) (start now : Sending) (next : Option (List ℕ)) (after : Stream) (new : Books) (before report : Report) (body : List ℕ)
+pub going_more : FirstsGoOn → FrameLaws → (l : Agreed) (start now : Sending) (next : Option (List ℕ)) (after : Stream) (new : Books) (before report : Report) (body : List ℕ)
     → Going l start now before → Consumes now.unread next (frame_of l.header body) → length body ≤ largest l.header
     → AnswersWhole l now.books new (message_in l.table body) now.writer after → ReportsOneMore before report (asked_of l.table body) → Going l start (sending next after new) report
 unfolding serves_more
-going_more go_on l start now next after new before report body going taken fits whole reports = record {
+going_more go_on joins l start now next after new before report body going taken fits whole reports = record {
   bodies = going.bodies ++ body ∷ [];
-  serves = serves_more l start now going.bodies going.serves go_on next after new body taken fits whole;
+  serves = serves_more l start now going.bodies going.serves go_on joins next after new body taken fits whole;
   flushed = flushed_more start.writer.counts now.writer.counts after.counts going.serves.bytes whole.bytes going.flushed whole.flushed;
   reports = reports_more l.table before report going.bodies body going.reports reports;
 }

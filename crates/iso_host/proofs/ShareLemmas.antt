@@ -7,12 +7,13 @@ use Rattle.std.proofs.lemmas.Grind.{flat_map-append}
 use Rattle.std.proofs.lemmas.List.{take-append-le, map-append}
 use Rattle.std.proofs.lemmas.List.Elements.{filter-append}
 use Rattle.iso_wire.specs.declared.header.Header.{Header}
+use Rattle.iso_wire.specs.FrameLaws.{FrameLaws}
 use Rattle.iso_wire.specs.Framing.{frame_of, frames_of, largest, NoFrame, Splits}
-use Rattle.iso_wire.proofs.FrameSplits.{frames_more, fit_more}
 use Rattle.iso_issuer.specs.Books.{Books}
 use Rattle.iso_order.specs.Order.{Instruction}
 use Rattle.iso_issuer.specs.Journal.{firsts}
 use Rattle.iso_issuer.specs.Laws.{FirstsGoOn, books_after}
+use Rattle.iso_host.proofs.FrameLemmas.{frames_more, fit_more}
 use Rattle.iso_host.proofs.ServeLemmas.{no_byte}
 use Rattle.iso_host.specs.Entering.{books_after_bodies}
 use Rattle.iso_host.specs.Handling.{books_after_body}
@@ -33,13 +34,13 @@ split_kept h bytes piece bodies rest kept split is none = record {
 }
 
 -- bytes that end a frame
-split_ended : (h : Header) (bytes piece : List ℕ) (bodies : List (List ℕ)) (rest kept body : List ℕ) → Splits h bytes bodies rest → rest ++ piece ≡ frame_of h body → length body ≤ largest h → kept ≡ []
+split_ended : FrameLaws → (h : Header) (bytes piece : List ℕ) (bodies : List (List ℕ)) (rest kept body : List ℕ) → Splits h bytes bodies rest → rest ++ piece ≡ frame_of h body → length body ≤ largest h → kept ≡ []
     → Splits h (bytes ++ piece) (bodies ++ body ∷ []) kept
-split_ended h bytes piece bodies rest kept body split is fits none = record {
+split_ended joins h bytes piece bodies rest kept body split is fits none = record {
   joined = ap (λ (l : List ℕ). l ++ piece) split.joined ∙ append_assoc (frames_of h bodies) rest piece
       ∙ ap (λ (l : List ℕ). frames_of h bodies ++ l) (is ∙ sym (append-nil (frame_of h body)))
-      ∙ sym (frames_more h bodies body []) ∙ ap (λ (l : List ℕ). frames_of h (bodies ++ body ∷ []) ++ l) (sym none);
-  fit = fit_more h bodies body split.fit fits;
+      ∙ sym (frames_more joins h bodies body []) ∙ ap (λ (l : List ℕ). frames_of h (bodies ++ body ∷ []) ++ l) (sym none);
+  fit = fit_more joins h bodies body split.fit fits;
   partial = subst (NoFrame h) (sym none) (no_byte h);
 }
 
@@ -194,7 +195,7 @@ and_false false = refl
 
 -- ---- one more call
 
-module _ (go_on : FirstsGoOn) (links : ℕ → Agreed) (calls : List Call) (call : Call) (old mid new : Peers) (ended : List Entry) (shares : Shares links calls old mid ended) (goes : Goes links call mid new) where
+module _ (go_on : FirstsGoOn) (joins : FrameLaws) (links : ℕ → Agreed) (calls : List Call) (call : Call) (old mid new : Peers) (ended : List Entry) (shares : Shares links calls old mid ended) (goes : Goes links call mid new) where
   -- a peer's frames, by what it took and what ended
   frames_by : (s : ℕ) (more : List Entry) (piece : List ℕ) (bodies : List (List ℕ)) → bytes_of s (call ∷ []) ≡ piece → bodies_of s more ≡ bodies → Splits (links s).header (bytes_of s calls ++ piece) (bodies_of s ended ++ bodies) (new.held s)
       → Splits (links s).header (bytes_of s (calls ++ call ∷ [])) (bodies_of s (ended ++ more)) (new.held s)
@@ -324,7 +325,7 @@ module _ (go_on : FirstsGoOn) (links : ℕ → Agreed) (calls : List Call) (call
           let s = call.peer in
           frames_by s (entry takes.0 true ∷ []) call.bytes (takes.0 ∷ []) (took (Ok (Some handled)) same)
           (body_if s (entry takes.0 true) true (ap (λ (b : Bool). b && true) (eq-eqb s s refl)))
-          (split_ended (links s).header (bytes_of s calls) call.bytes (bodies_of s ended) (mid.held s) (new.held s) takes.0 (shares.frames s) takes.1 takes.2 takes.3)
+          (split_ended joins (links s).header (bytes_of s calls) call.bytes (bodies_of s ended) (mid.held s) (new.held s) takes.0 (shares.frames s) takes.1 takes.2 takes.3)
   step_by (Err u) same (kept, grown, inl books) =
       step_kept (each (Frames []) (frames_same call.peer [] (took (Err u) same) refl kept) (frames_other [] (λ s is. refl))) books (outs_same grown)
   step_by (Err u) same (kept, grown, inr (body, more, is, fits, enters)) =
@@ -348,30 +349,30 @@ shares_none links old stays none = record {
   out = λ s. ([], refl, sym (append-nil (old.out s)));
 }
 
-runs : FirstsGoOn → (links : ℕ → Agreed) (before calls : List Call) (old mid new : Peers) (ended : List Entry) → Shares links before old mid ended → GoesOn links calls mid new
+runs : FirstsGoOn → FrameLaws → (links : ℕ → Agreed) (before calls : List Call) (old mid new : Peers) (ended : List Entry) → Shares links before old mid ended → GoesOn links calls mid new
     → (all : List Entry) × Shares links (before ++ calls) old new all × ((s : ℕ) → EndedOf s ended → AreOf s calls → EndedOf s all)
-runs go_on links before [] old mid new ended shares same = (
+runs go_on joins links before [] old mid new ended shares same = (
   ended,
   subst (λ (l : List Call). Shares links l old new ended) (sym (append-nil before)) (subst (λ (x : Peers). Shares links before old x ended) (sym same) shares),
   λ s of are. of,
 )
-runs go_on links before (call ∷ calls) old mid new ended shares on =
-    let one = step go_on links before call old mid on.0 ended shares on.1 in
-    let rest = runs go_on links (before ++ call ∷ []) calls old on.0 new (ended ++ one.0) one.1 on.2 in (
+runs go_on joins links before (call ∷ calls) old mid new ended shares on =
+    let one = step go_on joins links before call old mid on.0 ended shares on.1 in
+    let rest = runs go_on joins links (before ++ call ∷ []) calls old on.0 new (ended ++ one.0) one.1 on.2 in (
       rest.0,
       subst (λ (l : List Call). Shares links l old new rest.0) (append_assoc before (call ∷ []) calls) rest.1,
       λ s of are. rest.2 s (one.2 s of are.0 are.1) are.2,
     )
 
-pub peers_share : FirstsGoOn → (books : Books) → books_after books [] ≡ books → PeersShare books
-peers_share go_on books stays links calls old new same none on =
-    let all = runs go_on links [] calls old old new [] (shares_none links old (subst (λ (b : Books). books_after b [] ≡ b) (sym same) stays) none) on in
+pub peers_share : FirstsGoOn → FrameLaws → (books : Books) → books_after books [] ≡ books → PeersShare books
+peers_share go_on joins books stays links calls old new same none on =
+    let all = runs go_on joins links [] calls old old new [] (shares_none links old (subst (λ (b : Books). books_after b [] ≡ b) (sym same) stays) none) on in
     (all.0, all.1)
 
-pub peer_alone : FirstsGoOn → (books : Books) → books_after books [] ≡ books → PeerAlone books
+pub peer_alone : FirstsGoOn → FrameLaws → (books : Books) → books_after books [] ≡ books → PeerAlone books
 unfolding IsOutput
-peer_alone go_on books stays links s calls old new same none on are =
-    let all = runs go_on links [] calls old old new [] (shares_none links old (subst (λ (b : Books). books_after b [] ≡ b) (sym same) stays) none) on in
+peer_alone go_on joins books stays links s calls old new same none on are =
+    let all = runs go_on joins links [] calls old old new [] (shares_none links old (subst (λ (b : Books). books_after b [] ≡ b) (sym same) stays) none) on in
     let of = all.2 s tt are in
     let out = all.1.out s in (
       bodies_in all.0,

@@ -71,6 +71,17 @@ IsOutputFrom l books earlier (body ∷ bodies) bytes =
 unfoldable pub IsOutput : Layout → Header → Books → List (List ℕ) → List ℕ → Type 0
 IsOutput t h books bodies bytes = IsOutputFrom (agreed t h) books [] bodies bytes
 
+-- for no bodies nothing is written
+abbrev pub NoOutput : Type 0
+NoOutput = (t : Layout) (h : Header) (books : Books) → IsOutput t h books [] []
+
+-- behind what is written for some bodies comes the answer to the next one, at the books after them
+abbrev pub OutputGoesOn : Type 0
+OutputGoesOn = (t : Layout) (h : Header) (books : Books) (bodies : List (List ℕ))
+    (body bytes answer : List ℕ) → IsOutput t h books bodies bytes
+    → IsAnswer t h (books_after_bodies t books bodies) body answer
+    → IsOutput t h books (bodies ++ body ∷ []) (bytes ++ answer)
+
 -- no bodies have two outputs
 abbrev pub OutputOnce : Type 0
 OutputOnce = (t : Layout) (h : Header) (books : Books) (bodies : List (List ℕ)) (a b : List ℕ)

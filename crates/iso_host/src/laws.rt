@@ -2,13 +2,14 @@
 
 ghost use Rattle.iso_host.specs.Asking.{BodiesAreSpellings};
 ghost use Rattle.iso_host.specs.Entering.{BodiesGoOn, StaysWithout};
-ghost use Rattle.iso_host.specs.Output.{OutputOnce};
+ghost use Rattle.iso_host.specs.Handling.{BodyAlone};
+ghost use Rattle.iso_host.specs.Output.{NoOutput, OutputGoesOn, OutputOnce};
 ghost use Rattle.iso_host.specs.Sharing.{PeerAlone, PeersShare};
 
 use crate::answering::enters_nothing;
 use iso_issuer::Issuer;
 use iso_issuer::laws::firsts_go_on;
-use iso_wire::laws::{reads_spellings, spelled_once};
+use iso_wire::laws::{frames, reads_spellings, spelled_once};
 
 /// A body is read as a message exactly where the whole body is a spelling of that message. So what a body asks is what
 /// it spells.
@@ -25,11 +26,21 @@ pub fn one_output()
     spelled_once();
 }
 
+/// What is written for bodies goes on, one body after the other.
+pub fn output_goes_on()
+    // For no bodies nothing is written.
+    ensures none { NoOutput }
+    // Behind what is written for some bodies comes the answer to the next one, at the books after them.
+    ensures more { OutputGoesOn }
+{}
+
 /// One journal goes on over several streams: bodies that follow others are handled as if all had come on one stream, and
 /// no bodies leave it as it is.
 pub fn one_journal(issuer: &Issuer)
     // No bodies leave the books as they are, whatever the table.
     ensures none { StaysWithout issuer.now }
+    // A body alone leaves the same books as a stream of this one body.
+    ensures alone { BodyAlone }
     // Bodies that follow others leave the same books as all of them on one stream.
     ensures more { BodiesGoOn }
 {
@@ -52,6 +63,7 @@ pub fn peers_share(issuer: &Issuer)
     // are cut, and the journal is that of its bodies.
     ensures alone { PeerAlone issuer.now }
 {
+    frames();
     firsts_go_on();
     enters_nothing(issuer);
 }

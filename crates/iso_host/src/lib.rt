@@ -12,8 +12,8 @@
 //! - `Std`: a std reader as an inlet, a std writer as an outlet. A call that the system interrupts is made again.
 //! - `Tally` and `Call`: the counts that an inlet or outlet of your own keeps. They cost nothing at run time.
 //! - `write_all`: whole bytes to an outlet, and a flush.
-//! - `laws`: what a body asks is what it spells, bodies have one output, one journal goes on over several streams, and
-//!   peers that share a host have one journal and each its own answers.
+//! - `laws`: what a body asks is what it spells, bodies have one output, which goes on body by body, one journal goes on over
+//!   several streams, and peers that share a host have one journal and each its own answers.
 #![tactic(auto)]
 
 mod answering;

@@ -11,7 +11,7 @@ use crate::link::Link;
 use crate::taking::{Begun, NOT_BEGUN, Step, head_len, take_bytes};
 use iso_table::Table;
 use iso_wire::Header;
-use iso_wire::laws::splits_once;
+use iso_wire::laws::frames;
 use std::alloc::Global;
 use std::marker::Model;
 use thiserror::Error;
@@ -93,6 +93,8 @@ impl<'l> Peer<'l> {
     pub fn may_end(&self) -> bool
         ensures { (result ≡ true) ↔ (self.now.held ≡ []) }
     {
+        // the law that a header takes as many bytes, whatever it counts, for the prover
+        frames();
         head_len(&self.begun) == 0
     }
 

@@ -21,7 +21,7 @@ use iso_issuer::Issuer;
 use iso_issuer::laws::firsts_go_on;
 use iso_table::Table;
 use iso_wire::Header;
-use iso_wire::laws::splits_once;
+use iso_wire::laws::{frames, splits_once};
 use std::alloc::Global;
 
 /// The report before the first frame.
@@ -134,9 +134,9 @@ pub fn serve<R: Inlet, W: Outlet>(
     ensures cause { Cause (usage (R.counts reader.old) (W.counts writer.old))
         (usage (R.counts reader.new) (W.counts writer.new)) turns result }
 {
-    // the laws of a journal that goes on, that bytes have one split into frames, and that without an order the books stay
-    // as they are, for the prover
+    // the laws of a journal and of frames that go on, of their one split, and of books without an order, for the prover
     firsts_go_on();
+    frames();
     splits_once();
     enters_nothing(issuer);
     let mut left = turns;

@@ -17,7 +17,7 @@ use crate::peer::PeerFault;
 use iso_issuer::Issuer;
 use iso_order::NoMemory;
 use iso_table::Table;
-use iso_wire::laws::splits_once;
+use iso_wire::laws::{frames, splits_once};
 use iso_wire::{Header, body_length};
 
 /// The frame that has begun: the bytes of its header that came, so many, and how many of its body are still to come.
@@ -138,8 +138,8 @@ fn take_header_byte(
     ensures held { OnErr result (begun.new ≡ begun.old) }
     ensures unchanged { OnErr result (out.new.items ≡ out.old.items) }
 {
-    // the laws that a header and fewer bytes than it counts need more, and that a bad one stays so, for the prover
-    splits_once();
+    splits_once(); // for the prover: what a header comes to that is bad, or that counts more than is there
+    frames(); // for the prover: a header takes as many bytes, whatever it counts
     if bytes.is_empty() {
         return Ok(Step::inside(0));
     }
@@ -196,10 +196,11 @@ fn take_first(
     ensures held { OnErr result (begun.new ≡ begun.old) }
     ensures unchanged { OnErr result (out.new.items ≡ out.old.items) }
 {
+    frames(); // for the prover: a header takes as many bytes, whatever it counts
     match body_length(header, bytes) {
         Err(_) => Err(PeerFault::BadHeader),
         Ok(Some(length)) if length <= bytes.len() - header.size() => {
-            let (_, rest) = bytes.split_at(header.size());
+            let rest = bytes.split_at(header.size()).1;
             match answer_body(table, header, issuer, rooms, &rest[..length], out, told) {
                 Err(_) => Err(PeerFault::Memory),
                 Ok(()) => Ok(Step::ending(header.size() + length)),

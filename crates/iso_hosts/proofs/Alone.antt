@@ -13,9 +13,10 @@ use Rattle.iso_issuer.specs.Decision.{new_entry, journal_of, answer_for, answer_
 use Rattle.iso_issuer.specs.Laws.{AnswersAreKept, EnteredHasEntry, JournalsGrow}
 use Rattle.iso_issuer.specs.Laws.{NewIsFound, NewComesLast, KeysStayDistinct}
 use Rattle.iso_durable.specs.Durable.{entered, books_of, comes}
+use Rattle.iso_durable.specs.StartLaws.{StartLaws}
 use Rattle.iso_durable.specs.World.{World, Told, Comes, happens, waiting_after, IsAnswered, IsStart}
 
--- what the laws of the issuer and of the orders say
+-- what the laws of the issuer, of the orders and of starts say
 pub record IssuerLaws : Type 0 where
   pub kept : AnswersAreKept
   pub has : EnteredHasEntry
@@ -25,6 +26,7 @@ pub record IssuerLaws : Type 0 where
   pub one : (o p : Instruction) → same_order o p ≡ true → o ≡ p
   pub last : NewComesLast
   pub distinct : KeysStayDistinct
+  pub starts : StartLaws
 
 -- these orders give all these answers
 abbrev pub AllAnswered : List Account → List Instruction → List Told → Type 0

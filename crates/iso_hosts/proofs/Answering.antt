@@ -4,7 +4,6 @@ use Rattle.std.proofs.Common.{ap, sym, ◌∙◌, subst, List, [], ◌∷◌, �
 use Rattle.std.specs.Prelude.{None, if◌then◌else◌}
 use Rattle.iso_order.specs.Order.{Instruction}
 use Rattle.iso_order.specs.Outcome.{Outcome, code_alone}
-use Rattle.iso_order.proofs.Lists.{at-more, get-last}
 use Rattle.iso_issuer.specs.Journal.{is_entered}
 use Rattle.iso_issuer.specs.Books.{is_full, journal}
 use Rattle.iso_issuer.specs.Decision.{answer_for}
@@ -13,6 +12,7 @@ use Rattle.iso_durable.specs.World.{World as Alone, Told, waiting_after, IsAnswe
 use Rattle.iso_hosts.specs.World.{World, Host, Event, seen_by, doubted, alone, host_at, with_host}
 use Rattle.iso_hosts.specs.World.{known_answer, decides, receives, to_send, after_events}
 use Rattle.iso_hosts.specs.Laws.{syncing, IsAmong, AreTold}
+use Rattle.iso_hosts.proofs.Lists.{at-more, get-last}
 use Rattle.iso_hosts.proofs.Alone.{IssuerLaws, stays}
 use Rattle.iso_hosts.proofs.Batches.{self_same}
 use Rattle.iso_hosts.proofs.Calls.{sync_succeeds, Received, received, same_syncing}

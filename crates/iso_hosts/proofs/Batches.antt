@@ -10,7 +10,6 @@ use Rattle.std.proofs.lemmas.List.{take-append-le, take_more}
 use Rattle.std.proofs.lemmas.Option.{slice_get_within, get_or_from_slice_get}
 use Rattle.iso_order.specs.Order.{Instruction, same_order}
 use Rattle.iso_durable.specs.World.{IsStart}
-use Rattle.iso_durable.proofs.Distinct.{start_front}
 use Rattle.iso_hosts.specs.World.{Batch, orders_in, same_orders, same_batch}
 use Rattle.iso_hosts.proofs.Alone.{IssuerLaws}
 
@@ -117,8 +116,8 @@ all_within limit kept [] h = tt
 all_within limit kept (b ∷ bs) h = (h.0.within, all_within limit kept bs h.1)
 
 -- a beginning of the log, on which a host starts
-pub beginning : (limit : ℕ) (kept : List Batch) (n : ℕ) → IsStart limit (orders_in kept)
-    → IsStart limit (orders_in (take n kept))
-beginning limit kept n start =
-    start_front limit (orders_in (take n kept)) (orders_in (drop n kept))
+pub beginning : (laws : IssuerLaws) (limit : ℕ) (kept : List Batch) (n : ℕ)
+    → IsStart limit (orders_in kept) → IsStart limit (orders_in (take n kept))
+beginning laws limit kept n start =
+    laws.starts.front limit (orders_in (take n kept)) (orders_in (drop n kept))
     (subst (IsStart limit) (split_at n kept) start)

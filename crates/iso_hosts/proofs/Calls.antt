@@ -7,7 +7,6 @@ use Rattle.std.proofs.lemmas.List.{take-append-le}
 use Rattle.iso_order.specs.declared.key.TxKey.{TxKey}
 use Rattle.iso_order.specs.Key.{same_key}
 use Rattle.iso_order.specs.Order.{Instruction}
-use Rattle.iso_order.proofs.Lists.{get-last}
 use Rattle.iso_issuer.specs.Journal.{is_entered}
 use Rattle.iso_durable.specs.Durable.{Durable, entered, comes, come_all, syncs}
 use Rattle.iso_hosts.specs.World.{World, Batch, Event, orders_in, seen_by, doubted}
@@ -16,6 +15,7 @@ use Rattle.iso_hosts.specs.World.{host_at, with_host, known_answer}
 use Rattle.iso_hosts.specs.World.{decides, receives, to_send, left_behind, batch_of, sends}
 use Rattle.iso_hosts.specs.World.{tells, after_event, after_events}
 use Rattle.iso_hosts.specs.Laws.{syncing}
+use Rattle.iso_hosts.proofs.Lists.{get-last}
 use Rattle.iso_hosts.proofs.Alone.{IssuerLaws}
 use Rattle.iso_hosts.proofs.Batches.{self_same, seen_more, same_batch_self}
 

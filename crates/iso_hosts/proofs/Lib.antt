@@ -1,3 +1,4 @@
+mod Lists
 mod Alone
 mod Batches
 mod Sound

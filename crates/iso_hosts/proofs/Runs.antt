@@ -5,7 +5,6 @@ use Rattle.std.specs.Prelude.{◌==◌, Option, Some, None, slice_get, if◌then
 use Rattle.std.specs.List.{AllByRecursion}
 use Rattle.std.proofs.lemmas.Bool.Decides.{nat_tests}
 use Rattle.iso_order.specs.Order.{Instruction}
-use Rattle.iso_order.proofs.Lists.{all-at}
 use Rattle.iso_issuer.specs.declared.account.Account.{Account}
 use Rattle.iso_issuer.specs.Journal.{is_entered}
 use Rattle.iso_issuer.specs.Decision.{journal_of, answer_for}
@@ -15,6 +14,7 @@ use Rattle.iso_hosts.specs.World.{Receives, Sends, Arrives, Reads, Restarts, kno
 use Rattle.iso_hosts.specs.World.{receives, batch_of, arrives, same_batch}
 use Rattle.iso_hosts.specs.World.{tells, forgets, finds, reads}
 use Rattle.iso_hosts.specs.World.{after_event, after_events, log_begins}
+use Rattle.iso_hosts.proofs.Lists.{all-at}
 use Rattle.iso_hosts.proofs.Alone.{IssuerLaws, AllAnswered}
 use Rattle.iso_hosts.proofs.Batches.{all_within}
 use Rattle.iso_hosts.proofs.Sound.{IsSound, events_sound, begins_sound}
@@ -107,7 +107,7 @@ module _ (laws : IssuerLaws) (accounts : List Account) (limit : ℕ) (kept : Lis
   sound : IsSound (after_events events (log_begins accounts limit kept))
   sound =
       events_sound laws events (log_begins accounts limit kept)
-      (begins_sound accounts limit kept start)
+      (begins_sound laws accounts limit kept start)
 
   pub kept_once : IsStart limit
       (orders_in (after_events events (log_begins accounts limit kept)).kept)

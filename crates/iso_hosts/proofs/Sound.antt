@@ -7,17 +7,16 @@ use Rattle.std.proofs.lemmas.Bool.Decides.{nat_tests}
 use Rattle.std.proofs.lemmas.List.{take-append-le, take_all}
 use Rattle.std.proofs.lemmas.Option.{slice_get_within}
 use Rattle.iso_order.specs.Order.{Instruction}
-use Rattle.iso_order.proofs.Lists.{all-push, all-at}
 use Rattle.iso_issuer.specs.declared.account.Account.{Account}
 use Rattle.iso_issuer.specs.Journal.{is_entered}
 use Rattle.iso_durable.specs.World.{Told, Comes, happens, IsAnswered, IsStart}
-use Rattle.iso_durable.proofs.Distinct.{start_front}
 use Rattle.iso_hosts.specs.World.{World, Batch, Decisions, Host, Event, orders_in, seen_by, doubted}
 use Rattle.iso_hosts.specs.World.{Receives, Sends, Arrives, Reads, Restarts}
 use Rattle.iso_hosts.specs.World.{alone, fresh, with_host, known_answer, decides, receives}
 use Rattle.iso_hosts.specs.World.{to_send, left_behind, batch_of, sends, arrives, same_batch}
 use Rattle.iso_hosts.specs.World.{tells, forgets, finds, reads}
 use Rattle.iso_hosts.specs.World.{after_event, after_events, log_begins}
+use Rattle.iso_hosts.proofs.Lists.{all-push, all-at}
 use Rattle.iso_hosts.proofs.Alone.{IssuerLaws, AllAnswered, IsSoundAlone}
 use Rattle.iso_hosts.proofs.Alone.{stays, all_stay, all_append}
 use Rattle.iso_hosts.proofs.Alone.{comes_sound}
@@ -62,14 +61,14 @@ host_on accounts limit kept more h sound =
     }
 
 -- a host that starts on a beginning of the log
-fresh_sound : (accounts : List Account) (limit : ℕ) (kept : List Batch) (n : ℕ)
-    → n ≤ length kept → IsStart limit (orders_in kept)
+fresh_sound : (laws : IssuerLaws) (accounts : List Account) (limit : ℕ) (kept : List Batch)
+    (n : ℕ) → n ≤ length kept → IsStart limit (orders_in kept)
     → IsSoundHost accounts limit kept (fresh n)
-fresh_sound accounts limit kept n within start = record {
+fresh_sound laws accounts limit kept n within start = record {
   within = within;
   start =
       rw (append-nil (orders_in (take n kept) ++ []), append-nil (orders_in (take n kept)))
-      (beginning limit kept n start);
+      (beginning laws limit kept n start);
   doubt = tt;
   behind = tt;
 }
@@ -157,7 +156,9 @@ module _ (laws : IssuerLaws) where
   }
   sends_follows w seen (Some d) behind host = record {
     within = host.within;
-    start = start_front w.limit (orders_in (take seen w.kept) ++ d.orders) behind.orders host.start;
+    start =
+        laws.starts.front w.limit (orders_in (take seen w.kept) ++ d.orders) behind.orders
+        host.start;
   }
 
   -- and it goes on to be sound
@@ -225,7 +226,7 @@ module _ (laws : IssuerLaws) where
       → slice_get w.kept h.seen ≡ Some b → IsSound w → IsSound (forgets w n h)
   forgets_sound w n h b e sound =
       one_host w n (fresh (h.seen + 1)) sound
-      (fresh_sound w.accounts w.limit w.kept (h.seen + 1)
+      (fresh_sound laws w.accounts w.limit w.kept (h.seen + 1)
       (omega (arith, slice_get_within w.kept h.seen b e)) sound.start)
 
   -- it finds the orders that it is in doubt of
@@ -302,17 +303,18 @@ module _ (laws : IssuerLaws) where
       reads_sound w n (w.hosts n) (slice_get w.kept (w.hosts n).seen) refl (sound.hosts n) sound
   event_sound w (Restarts n seen) sound =
       one_host w n (fresh (min seen (length w.kept))) sound
-      (fresh_sound w.accounts w.limit w.kept (min seen (length w.kept)) (omega arith) sound.start)
+      (fresh_sound laws w.accounts w.limit w.kept (min seen (length w.kept)) (omega arith)
+      sound.start)
 
   pub events_sound : (es : List Event) (w : World) → IsSound w → IsSound (after_events es w)
   events_sound [] w sound = sound
   events_sound (e ∷ es) w sound = events_sound es (after_event w e) (event_sound w e sound)
 
-pub begins_sound : (accounts : List Account) (limit : ℕ) (kept : List Batch)
+pub begins_sound : (laws : IssuerLaws) (accounts : List Account) (limit : ℕ) (kept : List Batch)
     → IsStart limit (orders_in kept) → IsSound (log_begins accounts limit kept)
-begins_sound accounts limit kept start = record {
+begins_sound laws accounts limit kept start = record {
   start = start;
   told = tt;
   sent = tt;
-  hosts = λ n. fresh_sound accounts limit kept 0 (omega arith) start;
+  hosts = λ n. fresh_sound laws accounts limit kept 0 (omega arith) start;
 }

@@ -6,6 +6,7 @@ ghost use Rattle.iso_hosts.specs.Laws.{LateIsLost, NoGaps, OwnIsTold, FencedSays
 ghost use Rattle.iso_hosts.specs.Laws.{ReadsOn, OthersLeaveIt, SeenIsKept, StartsAreEvents};
 ghost use Rattle.iso_hosts.specs.Laws.{SyncSucceeds, CallsAreEvents, CallsAreTold};
 
+use iso_durable::laws::starts;
 use iso_issuer::laws::{answers_are_kept, entries_are_found, journals_grow, keys_stay_distinct};
 use iso_order::laws::comparisons;
 
@@ -59,5 +60,6 @@ pub fn no_host_is_wrong()
     entries_are_found();
     journals_grow();
     keys_stay_distinct();
+    starts();
     comparisons();
 }

@@ -35,10 +35,6 @@ front_stops test x xs fails = rw fails refl
 take_whole : (xs : List ℕ) → take (length xs) xs ≡ xs
 take_whole xs = let fits : length xs ≤ length xs = omega arith in take_all (length xs) xs fits
 
-drop_whole : (xs : List ℕ) → drop (length xs) xs ≡ []
-drop_whole [] = refl
-drop_whole (x ∷ xs) = drop_whole xs
-
 take_front : (xs ys : List ℕ) → take (length xs) (xs ++ ys) ≡ xs
 take_front xs ys = let fits : length xs ≤ length xs = omega arith in take-append-le (length xs) xs ys fits ∙ take_whole xs
 

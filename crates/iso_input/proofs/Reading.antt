@@ -83,9 +83,3 @@ over_digit p text i v half h s d = ap (λ (r : Result (List Digit) HexFault). pa
 pub fault_from : (half : Option Digit) (e : HexFault) → pairs_from half (Err e) ≡ Err e
 fault_from None e = refl
 fault_from (Some d) e = refl
-
--- the next byte is no digit
-pub at_fault : (p : Place) (text : List ℕ) (i : ℕ) (half : Option Digit) → i < length text → is_spacing (get_or text i 0) ≡ false → hex_digit_value (get_or text i 0) ≡ None
-    → pairs_from half (digits_at p (drop i text)) ≡ Err (NotDigit p.line p.column (get_or text i 0))
-at_fault p text i half h s d =
-    ap (λ (r : Result (List Digit) HexFault). pairs_from half r) (at_drop_more (digits_at p) text i 0 h ∙ fault_step p (get_or text i 0) (drop (i + 1) text) s d) ∙ fault_from half _

@@ -1,5 +1,5 @@
 -- Dumps as xxd, hexdump -C and Wireshark write them.
-use Rattle.std.specs.Prelude.{◌≡◌, ℕ, ◌+◌, ◌==◌, ◌&&◌, ◌⊎◌, Bool, true, false, List, [], ◌∷◌, ◌++◌, length, count_by, Ok}
+use Rattle.std.specs.Prelude.{◌≡◌, ℕ, ◌+◌, ◌==◌, ◌&&◌, ◌⊎◌, Bool, true, false, List, [], ◌∷◌, ◌++◌, length, count_by, Ok, codes}
 use Rattle.std.specs.List.{AllPass, slice_split}
 use Rattle.hex.specs.Hex.{decode_of, is_hex_digit}
 use Rattle.iso_input.specs.Decoding.{tight}
@@ -15,7 +15,7 @@ HasNoGap (a ∷ b ∷ bs) = ((is_blank a && is_blank b) ≡ false) × HasNoGap (
 pub record AreHalves (part : List ℕ) : Type 0 where
   pub first : List ℕ
   pub second : List ℕ
-  pub is : part ≡ first ++ 32 ∷ 32 ∷ second
+  pub is : part ≡ first ++ (codes "  " ++ second)
   pub eight : count_by is_hex_digit first ≡ 16
   pub first_dense : HasNoGap first
   pub second_dense : HasNoGap second

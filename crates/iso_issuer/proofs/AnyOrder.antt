@@ -4,6 +4,7 @@ use Rattle.std.specs.Prelude.{◌&&◌, ◌||◌, ◌==◌, Option, Some, None, 
 use Rattle.std.specs.List.{list_any, AllByRecursion}
 use Rattle.std.specs.List.Sorted.{IsPermutation}
 use Rattle.std.proofs.lemmas.List.Sorted.{sum_by-IsPermutation, list_any-IsPermutation}
+use Rattle.std.proofs.lemmas.List.Elements.{All-push, All-weaker, All-from_recursion, recursion_from_All}
 use Rattle.std.proofs.lemmas.List.Sums.{sum_by-cons}
 use Rattle.iso_order.specs.declared.key.TxKey.{TxKey}
 use Rattle.iso_order.specs.declared.act.Act.{Act}
@@ -12,7 +13,6 @@ use Rattle.iso_order.specs.declared.act.Money.{Money}
 use Rattle.iso_order.specs.Pan.{AccountNumber}
 use Rattle.iso_order.specs.Key.{function_digit}
 use Rattle.iso_order.specs.Order.{Instruction, same_currency}
-use Rattle.iso_order.proofs.Lists.{all-weaker, all-push, every, sum-all}
 use Rattle.iso_issuer.specs.declared.account.Account.{Account}
 use Rattle.iso_issuer.specs.declared.effect.Effect.{Effect}
 use Rattle.iso_issuer.specs.declared.effect.Side.{Side}
@@ -119,9 +119,18 @@ new_counts accounts before key (Complete m hold) left later long =
 
 -- ---- all entries
 
+all-push : {X : Type 0} (P : X → Type 0) (xs : List X) (x : X) → AllByRecursion P xs → P x → AllByRecursion P (xs ++ x ∷ [])
+all-push P xs x all p = recursion_from_All P (xs ++ x ∷ []) (All-push P xs x (All-from_recursion P xs all) p)
+
 all-last : {X : Type 0} (P : X → Type 0) (xs ys : List X) (x : X) → AllByRecursion P ((xs ++ x ∷ []) ++ ys) → P x
 all-last P [] ys x all = all.0
 all-last P (y ∷ xs) ys x all = all-last P xs ys x all.1
+
+all-weaker : {X : Type 0} (P Q : X → Type 0) (xs : List X) → ((x : X) → P x → Q x) → AllByRecursion P xs → AllByRecursion Q xs
+all-weaker P Q xs f all = recursion_from_All Q xs (All-weaker P Q f xs (All-from_recursion P xs all))
+
+every : {X : Type 0} (P : X → Type 0) (xs : List X) → ((x : X) → P x) → AllByRecursion P xs
+every P xs each = recursion_from_All P xs (λ k d less. each _)
 
 abbrev Counts : List Account → (TxKey → Option ℕ) → Entry → Type 0
 Counts accounts left e = is_counted_with (left e.order.key) e ≡ is_good accounts e.order.act && not (is_nothing (left e.order.key))
@@ -141,6 +150,10 @@ each_counts accounts left before (o ∷ os) later long all =
     each_counts accounts left es os later long (all-push (Counts accounts left) before (new_entry accounts before o) all here)
 
 -- ---- sums and tests over entries and over their orders
+
+sum-all : {X : Type 0} (f g : X → ℕ) (xs : List X) → AllByRecursion (λ x. f x ≡ g x) xs → sum_by f xs ≡ sum_by g xs
+sum-all f g [] all = refl
+sum-all f g (x ∷ xs) all = omega (arith, all.0, sum-all f g xs all.1, sum_by-cons f x xs, sum_by-cons g x xs)
 
 sum-mapped : {X Y : Type 0} (f : Y → ℕ) (g : X → Y) (xs : List X) → sum_by (λ x. f (g x)) xs ≡ sum_by f (map g xs)
 sum-mapped f g [] = refl

@@ -3,14 +3,12 @@ use Rattle.std.proofs.Common.{◌≡◌, ℕ, Bool, true, false, cond, refl, ari
 use Rattle.std.specs.Prelude.{Option, Some, None, option_map}
 use Rattle.std.specs.Option.{option_or}
 use Rattle.std.specs.Ordering.{is_eq}
-use Rattle.std.specs.BTreeMap as tree
 use Rattle.std.proofs.lemmas.Grind.{common_steps}
 use Rattle.std.proofs.lemmas.List.Folds.{find-append}
 use Rattle.iso_order.specs.declared.key.TxKey.{TxKey}
 use Rattle.iso_order.specs.Pan.{AccountNumber}
 use Rattle.iso_order.specs.Key.{same_key}
 use Rattle.iso_order.specs.Order.{same_pan}
-use Rattle.iso_order.proofs.Same.{same_pan_is}
 use Rattle.iso_issuer.specs.declared.account.Account.{Account}
 use Rattle.iso_issuer.specs.declared.balances.Balance.{Balance}
 use Rattle.iso_issuer.specs.declared.journal.Entry.{Entry}
@@ -19,6 +17,7 @@ use Rattle.iso_issuer.specs.Effect.{is_key}
 use Rattle.iso_issuer.specs.Journal.{entry_at, undone_key, left_by, left_at, reversal_of}
 use Rattle.iso_issuer.specs.Balances.{accounts_of, balance_at}
 use Rattle.iso_issuer.specs.Index.{key_cmp, place_of, pan_cmp, account_place}
+use Rattle.iso_issuer.proofs.Keys.{same_pan_is}
 use Rattle.iso_issuer.proofs.Places.{place-push, none_from, found-map}
 
 -- keys tie in their order where they are the same

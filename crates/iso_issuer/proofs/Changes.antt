@@ -4,13 +4,13 @@ use Rattle.std.proofs.Math.ListN.{set}
 use Rattle.std.specs.Prelude.{map, Some, None}
 use Rattle.std.specs.List.{position_from}
 use Rattle.iso_order.specs.Order.{same_pan}
-use Rattle.iso_order.proofs.Same.{same_pan_is, same_pan_sym}
 use Rattle.iso_issuer.specs.declared.account.Account.{Account}
 use Rattle.iso_issuer.specs.declared.balances.Balance.{Balance}
 use Rattle.iso_issuer.specs.declared.change.Change.{Change}
 use Rattle.iso_issuer.specs.Account.{account_of}
 use Rattle.iso_issuer.specs.Balances.{HasDistinctNumbers, accounts_of, balance_with, balance_after}
 use Rattle.iso_issuer.specs.Index.{account_place}
+use Rattle.iso_issuer.proofs.Keys.{same_pan_is, same_pan_sym}
 use Rattle.iso_issuer.proofs.Places.{place-map}
 
 posted_if : (c : Change) (b : Balance) (t : Bool) → same_pan c.pan b.account.pan ≡ t → balance_after c b ≡ cond t (balance_with c b) b

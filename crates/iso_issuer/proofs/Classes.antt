@@ -7,7 +7,7 @@ use Rattle.iso_order.specs.declared.act.Act.TheVariants.{Complete}
 use Rattle.iso_order.specs.declared.act.Money.{Money}
 use Rattle.iso_order.specs.Key.{class_digit, function_digit, is_valid_key, same_key}
 use Rattle.iso_order.specs.Order.{Instruction, is_hold_for, has_amount, is_valid_act, is_valid}
-use Rattle.iso_order.proofs.Same.{same_key_is}
+use Rattle.iso_issuer.proofs.Keys.{same_key_is}
 
 act_of : (o : Instruction) → IsTrue (is_valid o) → is_valid_act o.key o.act ≡ true
 unfolding is_valid

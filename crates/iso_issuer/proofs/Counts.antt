@@ -18,12 +18,12 @@ use Rattle.iso_issuer.specs.declared.effect.Hold.{Hold}
 use Rattle.iso_issuer.specs.Index.{key_cmp, pan_cmp, hold_cmp, bit, hold_count, mark_at, completions, hold_on, hold_by, added_by, dropped_of_entry, dropped_at_key, dropped_by_act, AreCounts}
 use Rattle.iso_order.specs.declared.act.Act.{Act}
 use Rattle.iso_order.specs.declared.act.Act.TheVariants.{Debit, Credit, Inquiry, Undo, Complete}
-use Rattle.iso_order.proofs.Same.{same_key_is, same_pan_is}
 use Rattle.iso_issuer.specs.declared.effect.Effect.{Effect}
 use Rattle.iso_issuer.specs.declared.journal.Entry.{Entry}
 use Rattle.iso_issuer.specs.Effect.{effect_of, effect_by, is_key, is_end_of}
 use Rattle.iso_issuer.specs.Journal.{entry_at, undone_key, left_by, left_at, is_counted_with, is_counted, HasDistinctKeys}
 use Rattle.iso_issuer.specs.Found.{reversed_by}
+use Rattle.iso_issuer.proofs.Keys.{same_key_is, same_pan_is}
 use Rattle.iso_issuer.proofs.ByKey.{key_tied, pan_tied, left-push}
 use Rattle.iso_issuer.proofs.Touched.{at, found-key}
 use Rattle.iso_issuer.proofs.Completions.{counted-kept, completions-entered, passed-most}

@@ -11,7 +11,6 @@ use Rattle.serde_json.specs.View.{view, items_view}
 use Rattle.serde_json.specs.declared.value.Value.{Value}
 use Rattle.iso_order.specs.Pan.{AccountNumber}
 use Rattle.iso_order.specs.Order.{same_pan}
-use Rattle.iso_order.proofs.Same.{same_pan_sym}
 use Rattle.iso_issuer.specs.declared.account.Account.{Account}
 use Rattle.iso_issuer.specs.declared.document.Listed.{Listed}
 use Rattle.iso_issuer.specs.Account.{account_of}
@@ -20,6 +19,7 @@ use Rattle.iso_issuer.specs.declared.balances.Balance.{Balance}
 use Rattle.iso_issuer.specs.declared.fault.AccountsFault.{AccountsFault}
 use Rattle.iso_issuer.specs.declared.fault.AccountsFault.TheVariants.{NotJson, Shape, Memory, Twice, OutOfRange}
 use Rattle.iso_issuer.specs.Document.{listed_in, listed_rows, document_in, is_listed, as_listed, is_out_of_range, account_fault, accounts_fault, list_or_fault, unless, ListsAccounts, HasFault}
+use Rattle.iso_issuer.proofs.Keys.{same_pan_sym}
 
 -- ---- rows
 

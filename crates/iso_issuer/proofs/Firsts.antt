@@ -6,8 +6,8 @@ use Rattle.std.proofs.lemmas.List.Elements.{filter-append}
 use Rattle.iso_order.specs.declared.key.TxKey.{TxKey}
 use Rattle.iso_order.specs.Key.{same_key}
 use Rattle.iso_order.specs.Order.{Instruction}
-use Rattle.iso_order.proofs.Same.{same_key_is, same_key_self, same_key_sym}
 use Rattle.iso_issuer.specs.Journal.{firsts, is_entered, HasDistinctKeys}
+use Rattle.iso_issuer.proofs.Keys.{same_key_is, same_key_self, same_key_sym}
 
 -- neither side of an `||` that is false
 pub neither : (p q : Bool) → p || q ≡ false → (p ≡ false) × (q ≡ false)

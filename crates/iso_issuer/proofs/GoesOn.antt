@@ -1,26 +1,31 @@
 -- A journal that goes on.
 use Rattle.std.proofs.Common.{◌≡◌, ◌<◌, ◌≤◌, ℕ, ◌+◌, ◌-◌, Bool, true, false, refl, arith, ap, sym, ◌∙◌, subst, List, [], ◌∷◌, ◌++◌, length, take, map, cond, append_assoc, append-nil, length-append}
 use Rattle.std.specs.Prelude.{Option, Some, None, is_some, find, filter}
+use Rattle.std.specs.Option.{option_or}
 use Rattle.std.proofs.Math.Seq.{take-append_seam, take-append-add}
 use Rattle.std.proofs.lemmas.List.{length-map}
 use Rattle.std.proofs.lemmas.List.Elements.{filter-append}
+use Rattle.std.proofs.lemmas.List.Folds.{find-append}
 use Rattle.iso_order.specs.declared.key.TxKey.{TxKey}
 use Rattle.iso_order.specs.Key.{same_key}
 use Rattle.iso_order.specs.Order.{Instruction, same_order}
 use Rattle.iso_order.specs.Outcome.{Outcome, code_alone}
-use Rattle.iso_order.proofs.Lists.{find-more}
-use Rattle.iso_order.proofs.Same.{same_key_is, same_key_self}
 use Rattle.iso_issuer.specs.declared.account.Account.{Account}
 use Rattle.iso_issuer.specs.declared.journal.Entry.{Entry}
 use Rattle.iso_issuer.specs.Journal.{firsts, is_entered, entry_at, HasDistinctKeys}
 use Rattle.iso_issuer.specs.Decision.{entries_after, new_entry, journal_of, repeat_answer, answer_for, answer_by}
 use Rattle.iso_issuer.specs.Books.{Books, journal, books_with, IsFullFor}
 use Rattle.iso_issuer.specs.Laws.{books_after}
+use Rattle.iso_issuer.proofs.Keys.{same_key_is, same_key_self}
 use Rattle.iso_issuer.proofs.Firsts.{is_other, firsts-new, firsts-known, firsts-distinct, distinct-push}
 use Rattle.iso_issuer.proofs.Touched.{found-key}
 use Rattle.iso_issuer.proofs.Entries.{entered-push, orders-entered, entered-found, full-new}
 
 -- ---- the entries that there are
+
+-- what is found stays found
+pub find-more : {X : Type 0} (t : X → Bool) (xs ys : List X) (x : X) → find t xs ≡ Some x → find t (xs ++ ys) ≡ Some x
+find-more t xs ys x h = find-append t xs ys ∙ ap (λ f. option_or f (find t ys)) h
 
 find-last : {X : Type 0} (t : X → Bool) (xs : List X) (x : X) → find t xs ≡ None → t x ≡ true → find t (xs ++ x ∷ []) ≡ Some x
 find-last t [] x none here = ap (λ (b : Bool). cond b (Some x) None) here

@@ -4,11 +4,11 @@ use Rattle.std.specs.Prelude.{Some, None, slice_get}
 use Rattle.std.specs.List.{position_from}
 use Rattle.iso_order.specs.Pan.{AccountNumber}
 use Rattle.iso_order.specs.Order.{same_pan}
-use Rattle.iso_order.proofs.Same.{same_pan_sym, same_pan_self}
 use Rattle.iso_issuer.specs.declared.balances.Balance.{Balance}
 use Rattle.iso_issuer.specs.Account.{account_of}
 use Rattle.iso_issuer.specs.Balances.{HasDistinctNumbers, accounts_of}
 use Rattle.iso_issuer.specs.Index.{account_place}
+use Rattle.iso_issuer.proofs.Keys.{same_pan_sym, same_pan_self}
 
 -- a number without account is not that of any balance
 other_number : (balances : List Balance) (p : ℕ) (b : Balance) (pan : AccountNumber) → account_of (accounts_of balances) pan ≡ None → slice_get balances p ≡ Some b

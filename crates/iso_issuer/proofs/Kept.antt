@@ -7,10 +7,10 @@ use Rattle.iso_order.specs.declared.key.TxKey.{TxKey}
 use Rattle.iso_order.specs.Key.{same_key}
 use Rattle.iso_order.specs.Order.{Instruction}
 use Rattle.iso_order.specs.Outcome.{Outcome}
-use Rattle.iso_order.proofs.Same.{same_key_is}
 use Rattle.iso_issuer.specs.declared.fault.Refused.{Refused}
 use Rattle.iso_issuer.specs.declared.fault.Refused.TheVariants.{Memory}
 use Rattle.iso_issuer.specs.Journal.{firsts, is_entered, HasDistinctKeys}
+use Rattle.iso_issuer.proofs.Keys.{same_key_is}
 use Rattle.iso_issuer.proofs.Firsts.{is_other, neither, firsts-new, firsts-known, firsts-distinct}
 
 -- ---- which keys are there

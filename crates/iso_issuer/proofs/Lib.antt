@@ -1,3 +1,4 @@
+mod Keys
 pub mod Places
 pub mod ByKey
 pub mod Slots

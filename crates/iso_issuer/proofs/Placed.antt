@@ -13,11 +13,11 @@ use Rattle.std.proofs.Math.Seq.{take-set-lt}
 use Rattle.iso_order.specs.declared.key.TxKey.{TxKey}
 use Rattle.iso_order.specs.Key.{same_key}
 use Rattle.iso_order.specs.Order.{Instruction}
-use Rattle.iso_order.proofs.Same.{same_key_is}
 use Rattle.iso_issuer.specs.declared.key_places.Slot.{Slot}
 use Rattle.iso_issuer.specs.Index.{key_cmp}
 use Rattle.iso_issuer.specs.Journal.{HasDistinctKeys}
 use Rattle.iso_issuer.specs.Places.{tag_of, start_of, window_of, is_free, sought, checked, found, key_place, TellsPlaces, IsFreeFor}
+use Rattle.iso_issuer.proofs.Keys.{same_key_is}
 use Rattle.iso_issuer.proofs.ByKey.{key_tied}
 use Rattle.iso_issuer.proofs.Places.{place-below}
 use Rattle.iso_issuer.proofs.Slots.{key-place-has, has-other, has-last, has-only, has-past, key-place-push, sought-has, sought-alike, checked-alike, sought-kept, sought-taken}

@@ -1,6 +1,6 @@
 -- What an order found, once it is entered.
 use Rattle.std.proofs.Common.{◌≡◌, ℕ, true, cond, refl, ap, sym, ◌∙◌, subst, List, [], ◌∷◌, ◌++◌}
-use Rattle.std.specs.Prelude.{Option, Some, None, is_some, option_and_then, option_map}
+use Rattle.std.specs.Prelude.{Option, Some, None, option_and_then, option_map}
 use Rattle.std.specs.Option.{option_or}
 use Rattle.iso_order.specs.declared.key.TxKey.{TxKey}
 use Rattle.iso_order.specs.declared.act.Act.{Act}
@@ -9,7 +9,6 @@ use Rattle.iso_order.specs.declared.act.Money.{Money}
 use Rattle.iso_order.specs.Order.{Instruction, money_of}
 use Rattle.iso_issuer.specs.declared.journal.Entry.{Entry}
 use Rattle.iso_order.specs.Pan.{AccountNumber}
-use Rattle.iso_order.proofs.Same.{same_key_is}
 use Rattle.iso_issuer.specs.declared.effect.Effect.{Effect}
 use Rattle.iso_issuer.specs.declared.found.Touched.{Touched}
 use Rattle.iso_issuer.specs.declared.found.Found.{Found}
@@ -17,6 +16,7 @@ use Rattle.iso_issuer.specs.Effect.{effect_by, is_key}
 use Rattle.iso_issuer.specs.Journal.{entry_at, undone_key, left_by, left_at, weight}
 use Rattle.iso_issuer.specs.Found.{weight_at, reversed_by, released_by, ended_key, touched_at, entry_in, weight_in, amount_left, IsFoundFor, WasFoundFor}
 use Rattle.iso_issuer.specs.Index.{dropped_of_entry, dropped_at_key, dropped_by_act}
+use Rattle.iso_issuer.proofs.Keys.{same_key_is}
 use Rattle.iso_issuer.proofs.ByKey.{left-push, left-kept}
 use Rattle.iso_issuer.proofs.Sums.{AreApart}
 use Rattle.iso_issuer.proofs.Touched.{found-key}
@@ -30,14 +30,6 @@ money-kept (Credit m) n h = refl
 money-kept (Inquiry m) n h = refl
 money-kept (Undo original left) n h = cc
 money-kept (Complete m hold) n h = refl
-
--- what has an effect
-pub effect-kept : (k : TxKey) (act : Act) → is_some (effect_by k act) ≡ true → undone_key act ≡ None
-effect-kept k (Debit m) h = refl
-effect-kept k (Credit m) h = refl
-effect-kept k (Inquiry m) h = refl
-effect-kept k (Undo original left) h = cc
-effect-kept k (Complete m hold) h = refl
 
 -- the money of an order that has an effect, on the same account
 pub effect-money : (k : TxKey) (act : Act) (f : Effect) → effect_by k act ≡ Some f → (m : Money) × (Some m ≡ money_of act) × (m.pan ≡ f.pan)

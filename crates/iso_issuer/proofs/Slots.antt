@@ -6,10 +6,10 @@ use Rattle.std.proofs.lemmas.Grind.{common_steps}
 use Rattle.iso_order.specs.declared.key.TxKey.{TxKey}
 use Rattle.iso_order.specs.Key.{same_key}
 use Rattle.iso_order.specs.Order.{Instruction}
-use Rattle.iso_order.proofs.Same.{same_key_is, same_key_self}
 use Rattle.iso_issuer.specs.declared.key_places.Slot.{Slot}
 use Rattle.iso_issuer.specs.Journal.{is_entered, HasDistinctKeys}
 use Rattle.iso_issuer.specs.Places.{is_free, is_of, has_key, sought, checked, key_place}
+use Rattle.iso_issuer.proofs.Keys.{same_key_is, same_key_self}
 use Rattle.iso_issuer.proofs.Places.{place-push, found-none}
 
 -- ---- the keys of orders

@@ -7,7 +7,6 @@ use Rattle.iso_order.specs.declared.act.Act.{Act}
 use Rattle.iso_order.specs.declared.act.Act.TheVariants.{Debit, Credit, Inquiry, Undo, Complete}
 use Rattle.iso_order.specs.Key.{class_digit, same_key}
 use Rattle.iso_order.specs.Order.{Instruction}
-use Rattle.iso_order.proofs.Lists.{find-more}
 use Rattle.iso_issuer.specs.declared.account.Account.{Account}
 use Rattle.iso_issuer.specs.declared.effect.Side.TheVariants.{Debited, Held}
 use Rattle.iso_issuer.specs.declared.journal.Entry.{Entry}
@@ -15,7 +14,7 @@ use Rattle.iso_issuer.specs.Effect.{effect_of, effect_by, effect_amount, is_key,
 use Rattle.iso_issuer.specs.Journal.{entry_at, undone_key, left_by, left_at, reversal_of, is_nothing, is_reversed, smaller_of, is_counted, is_completed, is_ended, is_standing, weight}
 use Rattle.iso_issuer.specs.Decision.{journal_of}
 use Rattle.iso_issuer.specs.StandingLaws.{NoneReverses, AllReverseWholly, NeverStands}
-use Rattle.iso_issuer.proofs.GoesOn.{journal-begins, answers-kept, key-found}
+use Rattle.iso_issuer.proofs.GoesOn.{find-more, journal-begins, answers-kept, key-found}
 
 -- ---- which entries stand
 

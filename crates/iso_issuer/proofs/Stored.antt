@@ -1,12 +1,10 @@
 -- The entries as they are kept, and one more.
-use Rattle.std.proofs.Common.{◌≡◌, ℕ, zero, suc, ◌+◌, ◌-◌, ◌<◌, ◌≤◌, Bool, true, false, cond, refl, arith, ap, sym, ◌∙◌, List, [], ◌∷◌, ◌++◌, length, get_or, length-append}
-use Rattle.std.specs.Prelude.{ℤ, Option, Some, None, map, ◌==◌, Result, Ok, Err, OnErr}
+use Rattle.std.proofs.Common.{◌≡◌, ℕ, zero, suc, ◌+◌, ◌-◌, ◌<◌, ◌≤◌, true, false, cond, refl, arith, ap, sym, ◌∙◌, List, [], ◌∷◌, ◌++◌, length, get_or, length-append}
+use Rattle.std.specs.Prelude.{ℤ, Option, Some, None, map, ◌==◌}
 use Rattle.std.specs.Option.{option_or}
-use Rattle.std.specs.Ordering.{nat_cmp, is_eq}
+use Rattle.std.specs.Ordering.{nat_cmp}
 use Rattle.std.specs.BTreeMap as tree
 use Rattle.std.specs.BTreeMap.{BTreeMap}
-use Rattle.std.proofs.lemmas.Bool.{eqb-true}
-use Rattle.std.proofs.lemmas.Grind.{common_steps}
 use Rattle.std.proofs.lemmas.List.Elements.{All-push}
 use Rattle.iso_order.specs.declared.key.TxKey.{TxKey}
 use Rattle.iso_order.specs.Pan.{AccountNumber}
@@ -151,23 +149,6 @@ stored-alike os cs s t old new are same alike = record {
   ended = λ i past. same i ∙ are.ended i past;
   indexed = rw (entries-same 0 os cs t s (λ i below. same i)) (index-alike _ new old alike are.indexed);
 }
-
-tied : (p i : ℕ) → is_eq (nat_cmp p i) ≡ (i == p)
-tied p i = grind (arith, common_steps)
-
--- a balance that was put at the end and taken away again
-pub taken-back : (os : List Instruction) (cs : List ℕ) (s t : BTreeMap ℕ ℤ) (index : Index) (place : ℕ) (z : Option ℤ) → AreStored os cs s index → place ≡ length os → IsPut place z s t →
-    (i : ℕ) → cond (is_eq (nat_cmp place i)) None (tree.get nat_cmp t i) ≡ tree.get nat_cmp s i
-taken-back os cs s t index place z are last put i = ap (λ b. cond b None (tree.get nat_cmp t i)) (tied place i) ∙ by_test (i == place) refl
-  where
-    by_test : (b : Bool) → (i == place) ≡ b → cond b None (tree.get nat_cmp t i) ≡ tree.get nat_cmp s i
-    by_test true h = sym (are.ended i (omega (arith, last, eqb-true i place h)))
-    by_test false h = put i ∙ ap (λ b. cond b z (tree.get nat_cmp s i)) h
-
--- what holds whatever the result is
-pub on-err : {X E P : Type 0} (r : Result X E) → P → OnErr r P
-on-err (Ok x) h = tt
-on-err (Err e) h = h
 
 -- the orders of the entries are those that are stored
 pub orders-entries : (n : ℕ) (os : List Instruction) (cs : List ℕ) (s : BTreeMap ℕ ℤ) → length cs ≡ length os → map (λ (e : Entry). e.order) (entries_from n os cs s) ≡ os

@@ -4,10 +4,10 @@ use Rattle.std.specs.Prelude.{Option, Some, None, map, sum_by, option_and_then}
 use Rattle.std.proofs.lemmas.List.Sums.{sum_by-append, sum_by-cons}
 use Rattle.iso_order.specs.declared.key.TxKey.{TxKey}
 use Rattle.iso_order.specs.Key.{same_key, class_digit}
-use Rattle.iso_order.proofs.Same.{same_key_is, same_key_sym}
 use Rattle.iso_issuer.specs.declared.journal.Entry.{Entry}
 use Rattle.iso_issuer.specs.Effect.{is_key}
 use Rattle.iso_issuer.specs.Journal.{entry_at, HasDistinctKeys}
+use Rattle.iso_issuer.proofs.Keys.{same_key_is, same_key_sym}
 use Rattle.iso_issuer.proofs.Entries.{entered-found}
 use Rattle.iso_issuer.proofs.Documents.{is_none-of}
 

@@ -7,15 +7,6 @@ use Rattle.iso_jobs.specs.declared.making.MakeRefusal.TheVariants as refusals
 use Rattle.iso_jobs.specs.declared.pages.Pages.{Pages}
 use Rattle.std.specs.declared.alloc.AllocError.{AllocError}
 
--- nothing is added where something was refused before
-pub made_unused : (target : Target) (text unused out : List ℕ) (r : Result (Unit {0}) MakeRefusal)
-    → Outcome target.table target.form text (record { old = []; new = unused }) r
-    → OutcomeUnless target true text (record { old = out; new = out }) r
-made_unused target text unused out (Ok done) made = (made.0, made.1, sym (append-nil out))
-made_unused target text unused out (Err refusals.Memory) made = tt
-made_unused target text unused out (Err (refusals.Complaints cs)) made = (made.0, refl)
-made_unused target text unused out (Err (refusals.TooLong n)) made = (made.0, refl)
-
 -- what is made is added where nothing was
 pub made_used : (target : Target) (text old new : List ℕ) (r : Result (Unit {0}) MakeRefusal)
     → Outcome target.table target.form text (record { old = old; new = new }) r

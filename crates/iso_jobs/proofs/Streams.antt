@@ -4,7 +4,7 @@ use Rattle.std.proofs.Math.Seq.{drop-append_seam}
 use Rattle.std.proofs.lemmas.List.Concat.{flat_map-cons}
 use Rattle.std.specs.Prelude.{IsTrue, IfOk, IfSome, option_map}
 use Rattle.std.specs.Io.KnownBytes.{Appends, Consumes, Keeps}
-use Rattle.iso_wire.specs.Framing.{BadIsNoFrame, BadStays, Begins, NeedsMore, is_bad_header, NoFrame, Splits, frame_of, frames_of, largest}
+use Rattle.iso_wire.specs.Framing.{Begins, NeedsMore, NoFrame, Splits, frame_of, frames_of, largest}
 use Rattle.iso_wire.specs.declared.header.Header.{Header}
 use Rattle.iso_input.specs.Window.{Ahead, Grows}
 use Rattle.iso_jobs.specs.Frames.{Progress, TakesFrame, Waits, Ends}
@@ -64,13 +64,6 @@ appends_on None mid new a b one two = tt
 appends_on (Some xs) None new a b one two = elim one [ ]
 appends_on (Some xs) (Some ys) None a b one two = elim two [ ]
 appends_on (Some xs) (Some ys) (Some zs) a b one two = two ∙ ap (λ (l : List ℕ). l ++ b) one ∙ append_assoc xs a b
-
--- where a header isn't of digits, no frame begins what is still to be had
-pub never_frame : (h : Header) (ahead : Option (List ℕ)) (held : List ℕ) → BadIsNoFrame → BadStays
-    → IfSome ahead (λ all. (rest : List ℕ) × (all ≡ held ++ rest)) → is_bad_header h held ≡ true → IfSome ahead (NoFrame h)
-never_frame h None held none stays front bad = tt
-never_frame h (Some all) held none stays front bad =
-    none h all (subst (λ (l : List ℕ). is_bad_header h l ≡ true) (sym front.1) (stays h held front.0 bad))
 
 -- no byte was put behind where no more came
 no_piece : (piece : List ℕ) (more : Bool) → more ≡ false → (IsTrue more ↔ (0 < length piece)) → piece ≡ []

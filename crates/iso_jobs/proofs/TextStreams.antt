@@ -30,10 +30,6 @@ module _ (target : Target) where
       → (ts : List (List ℕ)) × (ms : List (Bool × List ℕ)) × (all ≡ joined ts) × MakesEach target.table target.form ts ms
       × (output_of ms ≡ text ++ unless refused (output_of made)) × (are_made ms ≡ (not refused && are_made made))
 
-  -- nothing was made yet
-  pub begins_by : (all : List ℕ) → GoesBy all all [] false
-  begins_by all = λ texts made is each. (texts, made, is, each, refl, refl)
-
   none_made : (text : List ℕ) (ok : Bool) (out : List ℕ) → MakesOne target.table target.form text (ok, out) → ok ≡ false → out ≡ []
   none_made text true out makes is = absurd (grind arith)
   none_made text false out makes is = makes.1

@@ -1,6 +1,6 @@
 -- Complaints.
-use Rattle.std.specs.Prelude.{◌≡◌, ℕ, List, [], ◌∷◌, ◌++◌}
+use Rattle.std.specs.Prelude.{◌≡◌, ℕ, List, ◌++◌, codes}
 
 -- some characters and the end of the line
 abbrev pub IsEndedLine : List ℕ → Type 0
-IsEndedLine line = (text : List ℕ) × (line ≡ text ++ 10 ∷ [])
+IsEndedLine line = (text : List ℕ) × (line ≡ text ++ codes "\n")

@@ -1,5 +1,5 @@
 -- What is told of a message, and what is written for it.
-use Rattle.std.specs.Prelude.{◌≡◌, ◌⊎◌, ℕ, Result, Ok, Err, Bool, true, if◌then◌else◌, List, [], ◌∷◌, ◌++◌}
+use Rattle.std.specs.Prelude.{◌≡◌, ◌⊎◌, ℕ, Result, Ok, Err, Bool, true, if◌then◌else◌, List, [], ◌++◌, codes}
 use Rattle.iso_table.specs.Layout.{Layout}
 use Rattle.iso_wire.specs.Contents.{Contents}
 use Rattle.iso_wire.specs.Spelling.{Spelling, Converts}
@@ -17,7 +17,7 @@ use Rattle.iso_jobs.specs.declared.refusal.Trouble.TheVariants as troubles
 
 -- what ends the lines of a message: in a stream an empty line
 abbrev pub ending : Bool → List ℕ
-ending is_framed = if is_framed then 10 ∷ [] else []
+ending is_framed = if is_framed then codes "\n" else []
 
 -- how lines are told: with which names of elements, whether card data are shown, and whether an empty line ends them
 pub record LineStyle : Type 0 where
@@ -35,7 +35,7 @@ TellsLines t style b text =
 -- the line of JSON of the message that the bytes are
 abbrev pub TellsJson : Layout → Bool → List ℕ → List ℕ → Type 0
 TellsJson t is_clear b text = (m : Contents) × Spelling t m b
-    × (text ≡ json_of is_clear t m ++ 10 ∷ [])
+    × (text ≡ json_of is_clear t m ++ codes "\n")
 
 -- the table that a message is read by, and the one that it is written by
 pub record Tables : Type 0 where

@@ -1,5 +1,5 @@
 -- The bytes of a message as an output has them.
-use Rattle.std.specs.Prelude.{ℕ, nat_lt, Bool, false, if◌then◌else◌, List, [], ◌∷◌, ◌++◌, length, Option, Some, None}
+use Rattle.std.specs.Prelude.{ℕ, nat_lt, Bool, false, if◌then◌else◌, List, ◌++◌, length, Option, Some, None, codes}
 use Rattle.hex.specs.Hex.{encode_upper}
 use Rattle.iso_wire.specs.Framing.{frame_of, largest}
 use Rattle.iso_wire.specs.declared.header.Header.{Header}
@@ -17,7 +17,7 @@ exceeds (Some h) body = nat_lt (largest h) (length body)
 
 -- a line of hexadecimal digits
 abbrev pub hex_line : List ℕ → List ℕ
-hex_line bytes = encode_upper bytes ++ 10 ∷ []
+hex_line bytes = encode_upper bytes ++ codes "\n"
 
 -- the bytes in their frame, as they are or as hexadecimal digits
 abbrev pub written : Form → List ℕ → List ℕ

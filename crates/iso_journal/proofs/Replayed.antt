@@ -1,25 +1,23 @@
 -- A replay of a journal's records.
-use Rattle.std.proofs.Common.{◌≡◌, ◌∙◌, ℕ, ◌+◌, ◌-◌, ◌*◌, Bool, true, false, sym, ap, subst, arith, List, [], ◌∷◌, ◌++◌, length, take, drop, append-nil, append_assoc}
+use Rattle.std.proofs.Common.{◌≡◌, ◌∙◌, ℕ, Bool, false, sym, ap, subst, arith, List, [], ◌∷◌, ◌++◌, length, take, drop, append-nil, append_assoc}
 use Rattle.std.specs.Prelude.{nat_lt, Some}
-use Rattle.std.proofs.lemmas.List.{take_all}
+use Rattle.std.proofs.lemmas.List.{take_all, drop_all}
 use Rattle.sqlite_disk.specs.Disk.{Holds, Only}
 use Rattle.iso_order.specs.Order.{Instruction}
 use Rattle.iso_issuer.specs.declared.account.Account.{Account}
 use Rattle.iso_durable.specs.Durable.{Durable}
 use Rattle.iso_log.specs.Slots.{records_of}
-use Rattle.iso_log.specs.Log.{IsFile, IsLog, IsLeft}
-use Rattle.iso_log.proofs.Crash.{count_is}
-use Rattle.iso_log.proofs.Recovered.{holds_slot}
+use Rattle.iso_log.specs.Log.{IsLog}
+use Rattle.iso_log.specs.FileLaws.{FileLaws, SlotLaws}
 use Rattle.iso_journal.specs.Orders.{order_of, order_or_nothing, orders_of, journal_orders}
 use Rattle.iso_journal.specs.Written.{AreWritten, IsWritten}
 use Rattle.iso_journal.specs.declared.error.OpenError.{OpenError}
 use Rattle.iso_journal.specs.declared.error.OpenError.TheVariants.{Memory, Disk, Unfit, Other, Damaged}
-use Rattle.iso_journal.specs.Why.{IsWhy, IsOther, IsPlain, IsReplayFault, other_heading}
+use Rattle.iso_journal.specs.Why.{IsWhy, IsReplayFault, other_heading}
 use Rattle.iso_record.specs.declared.row.Row.{Row}
 use Rattle.iso_record.specs.Row.{row_bytes, row_in}
 use Rattle.iso_record.specs.declared.heading.HeadingFault.{HeadingFault}
 use Rattle.iso_record.specs.Heading.{heading_fault}
-use Rattle.iso_log.proofs.Fronts.{none_pending}
 
 -- the order of the bytes of a row
 pub order_is : (r : Row) (bytes : List ℕ) → bytes ≡ row_bytes r → row_in (row_bytes r) ≡ Some r
@@ -48,59 +46,27 @@ why_replay accounts limit wanted file Memory h = tt
 why_replay accounts limit wanted file Disk h = tt
 why_replay accounts limit wanted file Unfit h = tt
 
-pub why_other : (accounts : List Account) (limit : ℕ) (wanted file : List ℕ) (e : OpenError) → IsOther wanted file e → IsWhy accounts limit wanted file e
-why_other accounts limit wanted file (Other fault) h = h
-why_other accounts limit wanted file (Damaged place) h = absurd h
-why_other accounts limit wanted file Memory h = tt
-why_other accounts limit wanted file Disk h = tt
-why_other accounts limit wanted file Unfit h = tt
-
-pub why_plain : (accounts : List Account) (limit : ℕ) (wanted file : List ℕ) (e : OpenError) → IsPlain e → IsWhy accounts limit wanted file e
-why_plain accounts limit wanted file (Other fault) h = absurd h
-why_plain accounts limit wanted file (Damaged place) h = absurd h
-why_plain accounts limit wanted file Memory h = tt
-why_plain accounts limit wanted file Disk h = tt
-why_plain accounts limit wanted file Unfit h = tt
-
-pub replay_plain : (accounts : List Account) (limit : ℕ) (records : List (List ℕ)) (e : OpenError) → IsPlain e → IsReplayFault accounts limit records e
-replay_plain accounts limit records (Other fault) h = absurd h
-replay_plain accounts limit records (Damaged place) h = absurd h
-replay_plain accounts limit records Memory h = tt
-replay_plain accounts limit records Disk h = tt
-replay_plain accounts limit records Unfit h = tt
-
 -- ---- a log that was opened
 
-module _ {D : Type 0} (seen : D → List ℕ) (may_leave : D → List ℕ → Type 0) (is_usable : D → Bool) where
-  -- reading leaves a log
-  pub still_log : (d1 d2 : D) (slots count : ℕ) → IsLog seen may_leave is_usable (record { disk = d1; slots = slots; count = count; synced = count }) → seen d2 ≡ seen d1
-      → ((c : List ℕ) → may_leave d2 c → may_leave d1 c) → is_usable d2 ≡ true → IsLog seen may_leave is_usable (record { disk = d2; slots = slots; count = count; synced = count })
-  still_log d1 d2 slots count is same less usable = record {
-    usable = usable;
-    small = is.small;
-    file = subst (IsFile slots count) (sym same) is.file;
-    some = omega arith;
-    left = λ c here. subst (λ (f : List ℕ). IsLeft (128 * count) f c) (sym same) (is.left c (less c here));
-  }
+module _ (laws : FileLaws) {D : Type 0} (seen : D → List ℕ) (may_leave : D → List ℕ → Type 0) (is_usable : D → Bool)
+    (d : D) (slots count : ℕ) (is : IsLog seen may_leave is_usable (record { disk = d; slots = slots; count = count; synced = count })) where
+  long : count ≡ length (records_of (seen d))
+  long = laws.counted slots count (seen d) is.file
 
-  module _ (d : D) (slots count : ℕ) (is : IsLog seen may_leave is_usable (record { disk = d; slots = slots; count = count; synced = count })) where
-    long : count ≡ length (records_of (seen d))
-    long = count_is slots count (seen d) is.file
+  pub none_waits : orders_of (drop count (records_of (seen d))) ≡ []
+  none_waits = ap orders_of (drop_all count (records_of (seen d)) (omega (arith, long)))
 
-    pub none_waits : orders_of (drop count (records_of (seen d))) ≡ []
-    none_waits = none_pending order_of seen (record { disk = d; slots = slots; count = count; synced = count }) long
-
-    pub all_held : journal_orders (records_of (seen d)) ≡ journal_orders (take count (records_of (seen d))) ++ orders_of (drop count (records_of (seen d)))
-    all_held =
-        sym (append-nil (journal_orders (records_of (seen d)))) ∙ ap (λ (l : List Instruction). journal_orders (records_of (seen d)) ++ l) (sym none_waits)
-        ∙ ap (λ (l : List (List ℕ)). journal_orders l ++ orders_of (drop count (records_of (seen d)))) (sym (take_all count (records_of (seen d)) (omega (arith, long))))
+  pub all_held : journal_orders (records_of (seen d)) ≡ journal_orders (take count (records_of (seen d))) ++ orders_of (drop count (records_of (seen d)))
+  all_held =
+      sym (append-nil (journal_orders (records_of (seen d)))) ∙ ap (λ (l : List Instruction). journal_orders (records_of (seen d)) ++ l) (sym none_waits)
+      ∙ ap (λ (l : List (List ℕ)). journal_orders l ++ orders_of (drop count (records_of (seen d)))) (sym (take_all count (records_of (seen d)) (omega (arith, long))))
 
 -- ---- the heading
 
 -- what was read in front of a file
-pub first_other : (wanted file bytes : List ℕ) (fault : HeadingFault) → length bytes ≡ 128 → Holds file 0 bytes → heading_fault bytes wanted ≡ Some fault → other_heading wanted file ≡ Some fault
-first_other wanted file bytes fault long holds is =
-    let front : take 128 file ≡ bytes = holds_slot file bytes 0 long holds in
+pub first_other : SlotLaws → (wanted file bytes : List ℕ) (fault : HeadingFault) → length bytes ≡ 128 → Holds file 0 bytes → heading_fault bytes wanted ≡ Some fault → other_heading wanted file ≡ Some fault
+first_other laws wanted file bytes fault long holds is =
+    let front : take 128 file ≡ bytes = sym (laws.same_slot 1 0 bytes file long holds 0 (omega arith)) ∙ take_all 128 bytes (omega (arith, long)) in
     let enough : nat_lt (length file) 128 ≡ false = grind (arith, holds.within, long) in
     rw enough (ap (λ (l : List ℕ). heading_fault l wanted) front ∙ is)
 

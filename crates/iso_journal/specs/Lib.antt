@@ -1,3 +1,4 @@
+pub mod Fronts
 pub mod Orders
 pub mod Why
 pub mod Written

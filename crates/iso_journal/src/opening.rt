@@ -15,6 +15,7 @@ use crate::replaying::replay_records;
 use crate::watching::Watch;
 use iso_durable::DurableIssuer;
 use iso_issuer::{Accounts, Issuer};
+use iso_log::laws::{files, slots};
 use iso_log::{RECORD, RecordLog, recover};
 use iso_record::{Heading, HeadingFault, heading_fault};
 use sqlite_disk::Disk;
@@ -36,6 +37,7 @@ fn check_heading<D: Disk>(disk: &mut D, heading: &Heading) -> Result<(), OpenErr
     ensures seen { D.seen disk.new ≡ D.seen disk.old }
     ensures crash { (c : List ℕ) → D.may_leave disk.new c → D.may_leave disk.old c }
 {
+    slots();
     if !disk.may_be_used() {
         return Err(OpenError::Disk);
     }
@@ -157,6 +159,7 @@ pub fn open<D: Disk + Drop, W: Watch>(
         → Only (D.seen disk) (D.may_leave disk)
         → (c : List ℕ) → D.may_leave e.1 c → records_of c ≡ records_of (D.seen disk)) }
 {
+    files();
     match load(&mut disk, heading, accounts, limit, group, watch) {
         Ok(loaded) => {
             let log = RecordLog {

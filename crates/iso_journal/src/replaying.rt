@@ -11,6 +11,7 @@ use crate::watching::Watch;
 use iso_durable::answer_order;
 use iso_issuer::{Accounts, Issuer};
 use iso_log::RECORD;
+use iso_log::laws::{files, slots};
 use iso_record::read_row;
 use sqlite_disk::Disk;
 
@@ -82,6 +83,7 @@ fn replay_piece(issuer: &mut Issuer, piece: &[u8]) -> Result<usize, OpenError>
         (λ n. n ≡ length piece.now / 128 → issuer.new.limit ≡ issuer.old.limit) }
     ensures fault { IfErr result (λ e. IsPlain e) }
 {
+    slots();
     let count = piece.len() / RECORD;
     for place in 0..count {
         let record = record_at(piece, place);
@@ -122,6 +124,7 @@ fn replay_some<D: Disk>(
     ensures crash { (c : List ℕ) → D.may_leave disk.new c → D.may_leave disk.old c }
     ensures usable { IsTrue (D.is_usable disk.new) }
 {
+    slots();
     let mut buffer = [0; PIECE_BYTES];
     let piece = &mut buffer[..RECORD * count];
     let Ok(()) = disk.read_at(RECORD * place, piece) else {
@@ -160,6 +163,7 @@ pub(crate) fn replay_records<D: Disk, W: Watch>(
     ensures crash { (c : List ℕ) → D.may_leave disk.new c → D.may_leave disk.old c }
     ensures usable { IsTrue (D.is_usable disk.new) }
 {
+    files();
     let mut issuer = Issuer::new(accounts, limit);
     let mut place = 1;
     while place < count {

@@ -6,7 +6,6 @@ use Rattle.std.specs.Str.{IsUtf8}
 use Rattle.std.proofs.lemmas.Bool.{agree_below_at, and_parts, eqb-true}
 use Rattle.std.proofs.lemmas.Str.{IsUtf8-from_ascii}
 use Rattle.std.specs.Fmt.{digits}
-use Rattle.json.specs.Json.{string}
 use Rattle.json.specs.Token.{Token}
 use Rattle.json.specs.Print.{escape, escape_byte, print, print_from, quoted, separator}
 use Rattle.json.specs.Tree.{json_tokens, members_tokens}

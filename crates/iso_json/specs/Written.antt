@@ -24,12 +24,12 @@ escaped b =
 -- the member of an element: its number, and what the description shows of its value
 abbrev pub json_member : Bool → List (Option FieldSpec) → ℕ × List ℕ → List ℕ
 json_member is_clear rows e =
-    34 ∷ decimal e.0 ++ (codes "\":\""
-    ++ (flat_map escaped (shown_text is_clear (class_by (row_at rows e.0)) e.0 e.1) ++ 34 ∷ []))
+    codes "\"" ++ (decimal e.0 ++ (codes "\":\""
+    ++ (flat_map escaped (shown_text is_clear (class_by (row_at rows e.0)) e.0 e.1) ++ codes "\"")))
 
 -- a comma before each member
 abbrev pub further_members : Bool → List (Option FieldSpec) → List (ℕ × List ℕ) → List ℕ
-further_members is_clear rows es = flat_map (λ e. 44 ∷ json_member is_clear rows e) es
+further_members is_clear rows es = flat_map (λ e. codes "," ++ json_member is_clear rows e) es
 
 -- commas between the members
 abbrev pub json_members : Bool → List (Option FieldSpec) → List (ℕ × List ℕ) → List ℕ

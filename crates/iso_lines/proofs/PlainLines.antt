@@ -6,13 +6,14 @@ use Rattle.std.proofs.lemmas.Bool.{le-ltb, ltb-false}
 use Rattle.iso_table.specs.Layout.{Layout}
 use Rattle.iso_wire.specs.declared.header.Header.{Header}
 use Rattle.iso_wire.specs.Contents.{Contents}
+use Rattle.iso_wire.specs.FrameLaws.{FrameLaws}
 use Rattle.iso_wire.specs.Framing.{frame_of, frames_of, NoFrame, largest}
 use Rattle.iso_order.specs.declared.verdict.Verdict.{Verdict}
 use Rattle.iso_order.specs.declared.verdict.Verdict.TheVariants.{Order, Reply, Silent}
 use Rattle.iso_issuer.specs.Books.{Books}
 use Rattle.iso_host.specs.Asking.{asked_of, message_in}
 use Rattle.iso_host.specs.Entering.{books_after_bodies, BodiesGoOn, StaysWithout}
-use Rattle.iso_host.specs.Handling.{books_after_body}
+use Rattle.iso_host.specs.Handling.{books_after_body, BodyAlone}
 use Rattle.iso_host.specs.Links.{agreed}
 use Rattle.iso_host.specs.Output.{IsAnswerTo, IsAnswer, IsFramed, IsOutputFrom, IsOutput, response_to}
 use Rattle.iso_host.specs.declared.peer.PeerFault.{PeerFault}
@@ -29,7 +30,6 @@ use Rattle.iso_lines.specs.declared.peer.Peer.{Peer}
 use Rattle.iso_lines.specs.declared.standing.Closing.{Closing}
 use Rattle.iso_lines.specs.Guarded.{guard_at, is_guarded}
 use Rattle.iso_lines.specs.Hearing.{growth, Dealing, dealing_by, dealing_of, HearsBytes, ended_of, ended_after}
-use Rattle.iso_peers.proofs.Pieces.{body_alone}
 use Rattle.iso_lines.proofs.Turns.{ended_goes_on}
 use Rattle.iso_lines.proofs.Taken.{Made, made_all, made_one_more, made_heard, split_at, is_off, no_both}
 
@@ -89,10 +89,10 @@ outputs_plain : (t : Layout) (h : Header) (b : Books) (bodies : List (List ℕ))
 unfolding IsOutput IsGuardedOutput
 outputs_plain t h b bodies out is = output_plain t h b [] bodies out is
 
-made_direct : (key : ℕ) (c0 c1 : ConnectionState) (before after : Books) (bytes : List ℕ) (turned : Turned) (e0 e1 : Option Closing) → BodiesGoOn → StaysWithout before
+made_direct : (key : ℕ) (c0 c1 : ConnectionState) (before after : Books) (bytes : List ℕ) (turned : Turned) (e0 e1 : Option Closing) → FrameLaws → BodyAlone → BodiesGoOn → StaysWithout before
     → c1.peer.table ≡ c0.peer.table → c1.peer.header ≡ c0.peer.header → TakesAll (at_books c0 before) (at_books c1 after) bytes turned → e0 ≡ None → e1 ≡ ended_of e0 turned.stopped
     → Made key (plain c0.peer.table c0.peer.header) c0.peer.held c1.peer.held c0.waiting c1.waiting e0 e1 before after bytes
-made_direct key c0 c1 before after bytes turned e0 e1 law without table header took none ends = go turned.stopped took.stops ends
+made_direct key c0 c1 before after bytes turned e0 e1 joins alone law without table header took none ends = go turned.stopped took.stops ends
   where
     t : Layout
     t = c0.peer.table
@@ -126,12 +126,12 @@ made_direct key c0 c1 before after bytes turned e0 e1 law without table header t
         took.fit output took.waits (stops.2 ∙ books) none (λ is_none. (refl, subst (λ (x : Header). NoFrame x c1.peer.held) header stops.1))
     go (Some fault.BadHeader) stops ends = same _ ends stops.0
     go (Some fault.Memory) (inl is) ends = same _ ends is
-    go (Some fault.Memory) (inr (body, more, is, fits, alone)) ends =
-        made_one_more key (plain c0.peer.table c0.peer.header) c0.peer.held c1.peer.held c0.waiting c1.waiting e0 e1 before after bytes more took.bodies body took.answers law stays
+    go (Some fault.Memory) (inr (body, more, is, fits, enters)) ends =
+        made_one_more key (plain c0.peer.table c0.peer.header) c0.peer.held c1.peer.held c0.waiting c1.waiting e0 e1 before after bytes more took.bodies body took.answers joins law stays
         (front ∙ ap (λ (l : List ℕ). frames_of c0.peer.header took.bodies ++ l) (is ∙ ap (λ (x : Header). frame_of x body ++ more) header))
         took.fit (subst (λ (x : Header). length body ≤ largest x) header fits) output took.waits
-        (alone.0 ∙ ap (λ (x : Layout). books_after_body x (books_after_bodies c0.peer.table before took.bodies) body) table
-        ∙ body_alone c0.peer.table (books_after_bodies c0.peer.table before took.bodies) body
+        (enters.0 ∙ ap (λ (x : Layout). books_after_body x (books_after_bodies c0.peer.table before took.bodies) body) table
+        ∙ alone c0.peer.table (books_after_bodies c0.peer.table before took.bodies) body
         ∙ sym (books_plain c0.peer.table c0.peer.header (books_after_bodies c0.peer.table before took.bodies) (body ∷ []))
         ∙ ap (λ (b : Books). books_after_guarded (plain c0.peer.table c0.peer.header) b (body ∷ [])) books)
         none (λ is_none. ended_goes_on _ (sym ends ∙ is_none))
@@ -150,12 +150,12 @@ unguarded n l is =
     (omega (arith, ltb-false 0 n both.0), none_named l both.1)
 
 -- what was taken is heard
-pub direct_heard : {S : Type 0} (key : ℕ) (p q : Peer S) (before after : Books) (bytes : List ℕ) (r : Result Turned LogFailed) (failed : Bool) → BodiesGoOn → StaysWithout before
+pub direct_heard : {S : Type 0} (key : ℕ) (p q : Peer S) (before after : Books) (bytes : List ℕ) (r : Result Turned LogFailed) (failed : Bool) → FrameLaws → BodyAlone → BodiesGoOn → StaysWithout before
     → is_guarded p.line.terms.now ≡ false → q.line ≡ p.line → q.connection.peer.table ≡ p.connection.peer.table → q.connection.peer.header ≡ p.connection.peer.header
     → IfOk r (TakesAll (at_books p.connection before) (at_books q.connection after) bytes) → OnErr r (failed ≡ true) → failed ≡ false
     → p.standing.ended ≡ None → q.standing.ended ≡ ended_after p.standing.ended r → HearsBytes key (dealing_of p) (dealing_of q) (growth before after) bytes
-direct_heard key p q before after bytes (Err e) failed law without off line table header took refused sound none ends = absurd (no_both failed refused sound)
-direct_heard key p q before after bytes (Ok turned) failed law without off line table header took refused sound none ends =
+direct_heard key p q before after bytes (Err e) failed joins alone law without off line table header took refused sound none ends = absurd (no_both failed refused sound)
+direct_heard key p q before after bytes (Ok turned) failed joins alone law without off line table header took refused sound none ends =
     let d : dealing_of p ≡ dealing_by false p.line p.connection p.guarded p.standing.ended =
     ap (λ (t : Bool). dealing_by t p.line p.connection p.guarded p.standing.ended) off in
     let e : dealing_of q ≡ dealing_by false p.line q.connection q.guarded q.standing.ended =
@@ -167,7 +167,7 @@ direct_heard key p q before after bytes (Ok turned) failed law without off line 
     ∙ ap (λ (h : Header). guard_by p.line.link.now.table h [] 0) p.agreed.1
     ∙ ap (λ (l : List ℕ). guard_by p.line.link.now.table p.line.link.now.header l 0) (sym neither_is.1)
     ∙ ap (λ (n : ℕ). guard_by p.line.link.now.table p.line.link.now.header p.line.terms.now.acquirers.items n) (sym neither_is.0) in
-    let made = made_direct key p.connection q.connection before after bytes turned p.standing.ended q.standing.ended law without table header took none ends in
+    let made = made_direct key p.connection q.connection before after bytes turned p.standing.ended q.standing.ended joins alone law without table header took none ends in
     let of_line : Made key (guard_at p.line) p.connection.peer.held q.connection.peer.held p.connection.waiting q.connection.waiting p.standing.ended q.standing.ended before after bytes =
     subst (λ (g : Guard). Made key g p.connection.peer.held q.connection.peer.held p.connection.waiting q.connection.waiting p.standing.ended q.standing.ended before after bytes) guard made in
     subst (λ (x : Dealing). HearsBytes key x (dealing_of q) (growth before after) bytes) (sym d)

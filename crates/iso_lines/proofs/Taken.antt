@@ -5,8 +5,8 @@ use Rattle.std.specs.List.{AllByRecursion}
 use Rattle.std.proofs.lemmas.Bool.{eq-eqb}
 use Rattle.std.proofs.lemmas.List.{take-append-drop}
 use Rattle.iso_wire.specs.declared.header.Header.{Header}
+use Rattle.iso_wire.specs.FrameLaws.{FrameLaws}
 use Rattle.iso_wire.specs.Framing.{frame_of, frames_of, AllFit, NoFrame, largest}
-use Rattle.iso_wire.proofs.FrameSplits.{frames_of-append, AllFit-append}
 use Rattle.iso_issuer.specs.Books.{Books}
 use Rattle.iso_host.specs.Entering.{books_after_bodies, BodiesGoOn}
 use Rattle.iso_guard.specs.Guarding.{Guard}
@@ -96,11 +96,11 @@ made_all key g held kept out grown e0 e1 before after bytes rest bodies answers 
 
 -- the body of one more enters, and its answer wants memory
 pub made_one_more : (key : ℕ) (g : Guard) (held kept out grown : List ℕ) (e0 e1 : Option Closing) (before after : Books) (bytes more : List ℕ) (bodies : List (List ℕ)) (body answers : List ℕ)
-    → BodiesGoOn → books_after_guarded g before [] ≡ before → held ++ bytes ≡ frames_of g.header bodies ++ (frame_of g.header body ++ more) → AllFit g.header bodies
+    → FrameLaws → BodiesGoOn → books_after_guarded g before [] ≡ before → held ++ bytes ≡ frames_of g.header bodies ++ (frame_of g.header body ++ more) → AllFit g.header bodies
     → length body ≤ largest g.header → IsGuardedOutput g before bodies answers → grown ≡ out ++ answers
     → after ≡ books_after_guarded g (books_after_guarded g before bodies) (body ∷ []) → e0 ≡ None → (e1 ≡ None → ⊥)
     → Made key g held kept out grown e0 e1 before after bytes
-made_one_more key g held kept out grown e0 e1 before after bytes more bodies body answers law stays front fit fits output waits is none over =
+made_one_more key g held kept out grown e0 e1 before after bytes more bodies body answers joins law stays front fit fits output waits is none over =
     let last : List Arrival = record { key = key; line = g; body = body; answered = false } ∷ [] in
     let alone : bodies_of key last ≡ body ∷ [] = ap (λ (t : Bool). if t then body ∷ [] else []) (eq-eqb key key refl) in
     let same : bodies_of key (arrivals_of key g bodies ++ last) ≡ bodies ++ body ∷ [] =
@@ -116,9 +116,9 @@ made_one_more key g held kept out grown e0 e1 before after bytes more bodies bod
         rest = more;
         front = front ∙ sym (append_assoc (frames_of g.header bodies) (frame_of g.header body) more)
             ∙ ap (λ (l : List ℕ). (frames_of g.header bodies ++ l) ++ more) (sym (append-nil (frame_of g.header body)))
-            ∙ ap (λ (l : List ℕ). l ++ more) (sym (frames_of-append g.header bodies (body ∷ [])))
+            ∙ ap (λ (l : List ℕ). l ++ more) (sym (joins.joined g.header bodies (body ∷ [])))
             ∙ ap (λ (l : List (List ℕ)). frames_of g.header l ++ more) (sym same);
-        fit = subst (AllFit g.header) (sym same) (AllFit-append g.header bodies (body ∷ []) fit (fits, tt));
+        fit = subst (AllFit g.header) (sym same) (joins.fit g.header bodies (body ∷ []) fit (fits, tt));
         answers = answers ++ [];
         are = answers_go_on key g before (arrivals_of key g bodies) last answers [] (answers_of law key g before bodies answers stays output) share;
         waits = waits ∙ ap (λ (l : List ℕ). out ++ l) (sym (append-nil answers));

@@ -5,8 +5,8 @@ use Rattle.std.specs.List.{AllByRecursion}
 use Rattle.std.specs.Io.KnownBytes.{Consumes, Keeps}
 use Rattle.std.proofs.lemmas.Bool.Decides.{eqb_tells}
 use Rattle.std.proofs.lemmas.List.{take_more}
+use Rattle.iso_wire.specs.FrameLaws.{FrameLaws}
 use Rattle.iso_wire.specs.Framing.{frames_of, AllFit}
-use Rattle.iso_wire.proofs.FrameSplits.{frames_of-append, AllFit-append}
 use Rattle.iso_issuer.specs.Books.{Books}
 use Rattle.iso_guard.specs.Guarding.{Guard}
 use Rattle.iso_links.specs.declared.limits.Limits.{Limits}
@@ -125,18 +125,18 @@ still_heard key g held out e b ys none are = record {
 }
 
 -- bytes, and then more
-pub heard_more : (key : ℕ) (g : Guard) (h0 h1 h2 o0 o1 o2 : List ℕ) (e0 e1 e2 : Option Closing) (b : Books) (x y : List ℕ) (xs ys : List Arrival)
+heard_more : FrameLaws → (key : ℕ) (g : Guard) (h0 h1 h2 o0 o1 o2 : List ℕ) (e0 e1 e2 : Option Closing) (b : Books) (x y : List ℕ) (xs ys : List Arrival)
     → IsHeard (sender key g) (keeping h0 o0 e0) (keeping h1 o1 e1) (coming b xs) x
     → IsHeard (sender key g) (keeping h1 o1 e1) (keeping h2 o2 e2) (coming (books_after_arrivals b xs) ys) y
     → IsHeard (sender key g) (keeping h0 o0 e0) (keeping h2 o2 e2) (coming b (xs ++ ys)) (x ++ y)
-heard_more key g h0 h1 h2 o0 o1 o2 e0 None e2 b x y xs ys first second = record {
+heard_more joins key g h0 h1 h2 o0 o1 o2 e0 None e2 b x y xs ys first second = record {
   rest = second.rest;
   front = sym (append_assoc h0 x y) ∙ ap (λ (l : List ℕ). l ++ y) first.front ∙ append_assoc (frames_of g.header (bodies_of key xs)) first.rest y
       ∙ ap (λ (l : List ℕ). frames_of g.header (bodies_of key xs) ++ (l ++ y)) (first.stays refl).1 ∙ ap (λ (l : List ℕ). frames_of g.header (bodies_of key xs) ++ l) second.front
       ∙ sym (append_assoc (frames_of g.header (bodies_of key xs)) (frames_of g.header (bodies_of key ys)) second.rest)
-      ∙ ap (λ (l : List ℕ). l ++ second.rest) (sym (frames_of-append g.header (bodies_of key xs) (bodies_of key ys)))
+      ∙ ap (λ (l : List ℕ). l ++ second.rest) (sym (joins.joined g.header (bodies_of key xs) (bodies_of key ys)))
       ∙ ap (λ (l : List (List ℕ)). frames_of g.header l ++ second.rest) (sym (bodies_go_on key xs ys));
-  fit = subst (AllFit g.header) (sym (bodies_go_on key xs ys)) (AllFit-append g.header (bodies_of key xs) (bodies_of key ys) first.fit second.fit);
+  fit = subst (AllFit g.header) (sym (bodies_go_on key xs ys)) (joins.fit g.header (bodies_of key xs) (bodies_of key ys) first.fit second.fit);
   answers = first.answers ++ second.answers;
   are = answers_go_on key g b xs ys first.answers second.answers first.are second.are;
   waits = second.waits ∙ ap (λ (l : List ℕ). l ++ second.answers) first.waits ∙ append_assoc o0 first.answers second.answers;
@@ -144,7 +144,7 @@ heard_more key g h0 h1 h2 o0 o1 o2 e0 None e2 b x y xs ys first second = record 
   whole = λ ends none. second.whole ends (first.whole refl none);
   over = λ why is. absurd (not_over e0 why (first.stays refl).0 is);
 }
-heard_more key g h0 h1 h2 o0 o1 o2 e0 (Some over) e2 b x y xs ys first second =
+heard_more joins key g h0 h1 h2 o0 o1 o2 e0 (Some over) e2 b x y xs ys first second =
     let same : bodies_of key (xs ++ ys) ≡ bodies_of key xs =
     bodies_go_on key xs ys ∙ ap (λ (l : List (List ℕ)). bodies_of key xs ++ l) (second.over over refl) ∙ append-nil (bodies_of key xs) in
     record {
@@ -161,10 +161,10 @@ heard_more key g h0 h1 h2 o0 o1 o2 e0 (Some over) e2 b x y xs ys first second =
     }
 
 -- the same of a peer
-pub heard_twice : (key : ℕ) (d e f : Dealing) (b : Books) (x y : List ℕ) (xs ys : List Arrival) → e.line ≡ d.line
+heard_twice : FrameLaws → (key : ℕ) (d e f : Dealing) (b : Books) (x y : List ℕ) (xs ys : List Arrival) → e.line ≡ d.line
     → IsHeardAs key d e (coming b xs) x → IsHeardAs key e f (coming (books_after_arrivals b xs) ys) y → IsHeardAs key d f (coming b (xs ++ ys)) (x ++ y)
-heard_twice key d e f b x y xs ys line first second =
-    heard_more key (guard_at d.line) d.held e.held f.held d.waiting e.waiting f.waiting d.ended e.ended f.ended b x y xs ys first
+heard_twice joins key d e f b x y xs ys line first second =
+    heard_more joins key (guard_at d.line) d.held e.held f.held d.waiting e.waiting f.waiting d.ended e.ended f.ended b x y xs ys first
     (subst (λ (l : Line). IsHeard (sender key (guard_at l)) (kept_of e) (kept_of f) (coming (books_after_arrivals b xs) ys) y) line second)
 
 -- the order of the peers goes on by one
@@ -196,9 +196,9 @@ module _ {S : Type 0} (remaining : S → Option (List ℕ)) where
   }
 
   -- it is, and then again
-  pub reads_more : (key : ℕ) (p q r : Peer S) (b0 b1 b2 : Books) → HearsAlone remaining key p q (growth b0 b1) → HearsAlone remaining key q r (growth b1 b2)
+  pub reads_more : FrameLaws → (key : ℕ) (p q r : Peer S) (b0 b1 b2 : Books) → HearsAlone remaining key p q (growth b0 b1) → HearsAlone remaining key q r (growth b1 b2)
       → HearsAlone remaining key p r (growth b0 b2)
-  reads_more key p q r b0 b1 b2 first second =
+  reads_more joins key p q r b0 b1 b2 first second =
       let xs = first.hears.arrivals in
       let ys = second.hears.arrivals in
       let at_books = subst (λ (b : Books). IsHeardAs key (dealing_of q) (dealing_of r) (coming b ys) second.bytes) first.hears.entered second.hears.heard in
@@ -210,7 +210,7 @@ module _ {S : Type 0} (remaining : S → Option (List ℕ)) where
           own = own_more key xs ys first.hears.own second.hears.own;
           entered = second.hears.entered ∙ ap (λ (b : Books). books_after_arrivals b ys) first.hears.entered ∙ books_go_on b0 xs ys;
           line = second.hears.line ∙ first.hears.line;
-          heard = heard_twice key (dealing_of p) (dealing_of q) (dealing_of r) b0 first.bytes second.bytes xs ys first.hears.line first.hears.heard at_books;
+          heard = heard_twice joins key (dealing_of p) (dealing_of q) (dealing_of r) b0 first.bytes second.bytes xs ys first.hears.line first.hears.heard at_books;
         };
       }
     where
@@ -220,24 +220,24 @@ module _ {S : Type 0} (remaining : S → Option (List ℕ)) where
 
   -- ---- the peer under a key, among the others
 
-  own_twice : (k : ℕ) (p q r : Peer S) (b : Books) (xs ys : List Arrival) → HearsOwn remaining k p q (coming b xs) → HearsOwn remaining k q r (coming (books_after_arrivals b xs) ys)
+  own_twice : FrameLaws → (k : ℕ) (p q r : Peer S) (b : Books) (xs ys : List Arrival) → HearsOwn remaining k p q (coming b xs) → HearsOwn remaining k q r (coming (books_after_arrivals b xs) ys)
       → HearsOwn remaining k p r (coming b (xs ++ ys))
-  own_twice k p q r b xs ys first second =
+  own_twice joins k p q r b xs ys first second =
       record {
         bytes = first.bytes ++ second.bytes;
         given = gives_more (remaining p.stream) (remaining q.stream) (remaining r.stream) first.bytes second.bytes first.given second.given;
         line = second.line ∙ first.line;
-        heard = heard_twice k (dealing_of p) (dealing_of q) (dealing_of r) b first.bytes second.bytes xs ys first.line first.heard second.heard;
+        heard = heard_twice joins k (dealing_of p) (dealing_of q) (dealing_of r) b first.bytes second.bytes xs ys first.line first.heard second.heard;
       }
 
-  at_twice : (k : ℕ) (o p q : Option (Peer S)) (b : Books) (xs ys : List Arrival) → HearsAt remaining k o p (coming b xs) → HearsAt remaining k p q (coming (books_after_arrivals b xs) ys)
+  at_twice : FrameLaws → (k : ℕ) (o p q : Option (Peer S)) (b : Books) (xs ys : List Arrival) → HearsAt remaining k o p (coming b xs) → HearsAt remaining k p q (coming (books_after_arrivals b xs) ys)
       → HearsAt remaining k o q (coming b (xs ++ ys))
-  at_twice k None p q b xs ys first second =
+  at_twice joins k None p q b xs ys first second =
       let none = subst (λ (m : Option (Peer S)). HearsAt remaining k m q (coming (books_after_arrivals b xs) ys)) first.0 second in
       (none.0, bodies_go_on k xs ys ∙ ap (λ (l : List (List ℕ)). l ++ bodies_of k ys) first.1 ∙ none.1)
-  at_twice k (Some o) None q b xs ys first second = absurd first
-  at_twice k (Some o) (Some p) None b xs ys first second = absurd second
-  at_twice k (Some o) (Some p) (Some q) b xs ys first second = own_twice k o p q b xs ys first second
+  at_twice joins k (Some o) None q b xs ys first second = absurd first
+  at_twice joins k (Some o) (Some p) None b xs ys first second = absurd second
+  at_twice joins k (Some o) (Some p) (Some q) b xs ys first second = own_twice joins k o p q b xs ys first second
 
   at_other : (k key : ℕ) (o : Option (Peer S)) (b : Books) (ys : List Arrival) → k ≢ key → AllByRecursion (λ a. a.key ≡ key) ys → HearsAt remaining k o o (coming b ys)
   at_other k key None b ys other own = (refl, bodies_other key k ys other own)
@@ -285,10 +285,10 @@ module _ {S : Type 0} (remaining : S → Option (List ℕ)) where
       same k o n is = subst (λ (m : Option (Peer S)). HearsAt remaining k o m (coming b [])) (sym is) (as_it_was k o)
 
   -- one more is
-  pub turn_more : (old mid new : Peers S) (b0 b1 b2 : Books) (place key : ℕ) → HearsFirst remaining place old mid (growth b0 b1) → OthersStay key mid new
+  pub turn_more : FrameLaws → (old mid new : Peers S) (b0 b1 b2 : Books) (place key : ℕ) → HearsFirst remaining place old mid (growth b0 b1) → OthersStay key mid new
       → ReadsAt remaining key (peer_at mid key) (peer_at new key) (growth b1 b2) → place < length (looked_at old) → slice_index_or (looked_at old) place key ≡ key
       → HearsFirst remaining (place + 1) old new (growth b0 b2)
-  turn_more old mid new b0 b1 b2 place key turn others reads within here =
+  turn_more joins old mid new b0 b1 b2 place key turn others reads within here =
       let one : take (place + 1) (looked_at old) ≡ take place (looked_at old) ++ key ∷ [] =
       take_more (looked_at old) place key within ∙ ap (λ (k : ℕ). take place (looked_at old) ++ k ∷ []) here in
       let step = own_of key (peer_at mid key) (peer_at new key) b1 b2 reads in
@@ -305,9 +305,9 @@ module _ {S : Type 0} (remaining : S → Option (List ℕ)) where
           → ((eqb k key ≡ true) × (k ≡ key)) ⊎ ((eqb k key ≡ false) × (k ≢ key)) → HearsAt remaining k (peer_at old k) (peer_at new k) (coming b0 (turn.arrivals ++ step.arrivals))
       by_key turn others step k (inl (test, is)) =
           subst (λ (n : ℕ). HearsAt remaining n (peer_at old n) (peer_at new n) (coming b0 (turn.arrivals ++ step.arrivals))) (sym is)
-          (at_twice key (peer_at old key) (peer_at mid key) (peer_at new key) b0 turn.arrivals step.arrivals (turn.peers key)
+          (at_twice joins key (peer_at old key) (peer_at mid key) (peer_at new key) b0 turn.arrivals step.arrivals (turn.peers key)
           (subst (λ (b : Books). HearsAt remaining key (peer_at mid key) (peer_at new key) (coming b step.arrivals)) turn.entered step.at))
       by_key turn others step k (inr (test, not)) =
-          at_twice k (peer_at old k) (peer_at mid k) (peer_at new k) b0 turn.arrivals step.arrivals (turn.peers k)
+          at_twice joins k (peer_at old k) (peer_at mid k) (peer_at new k) b0 turn.arrivals step.arrivals (turn.peers k)
           (subst (λ (o : Option (Peer S)). HearsAt remaining k (peer_at mid k) o (coming (books_after_arrivals b0 turn.arrivals) step.arrivals)) (sym (others k not))
           (at_other k key (peer_at mid k) (books_after_arrivals b0 turn.arrivals) step.arrivals not step.own))

@@ -14,6 +14,7 @@ use iso_guard::Rooms;
 use iso_host::PeerFault;
 use iso_host::laws::one_journal;
 use iso_peers::{DurableHost, Turned};
+use iso_wire::laws::frames;
 use std::io::{ErrorKind, Read, Write};
 
 /// How reading a piece went on.
@@ -63,8 +64,9 @@ impl<S: Read + Write + Drop> Peer<'_, S> {
         ensures step { IsInStep L.is_ready L.synced L.pending host.old
             → IsInStep L.is_ready L.synced L.pending host.new }
     {
-        // the laws of what enters, for the prover
+        // the laws of what enters, and of frames behind others, for the prover
         one_journal(host.issuer());
+        frames();
         let taken = take_noted(
             host,
             &mut self.connection,
@@ -97,8 +99,9 @@ impl<S: Read + Write + Drop> Peer<'_, S> {
         ensures step { IsInStep L.is_ready L.synced L.pending host.old
             → IsInStep L.is_ready L.synced L.pending host.new }
     {
-        // the laws of what enters, for the prover
+        // the laws of what enters, and of frames behind others, for the prover
         one_journal(host.issuer());
+        frames();
         let mut noted = Noted {
             notes: self.notes,
             told: std::mem::replace(told, Vec::new(self.alloc)),

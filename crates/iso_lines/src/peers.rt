@@ -17,6 +17,7 @@ use crate::tally::{NO_PEERS, Tally};
 use iso_durable::Log;
 use iso_guard::Rooms;
 use iso_peers::DurableHost;
+use iso_wire::laws::frames;
 use slab::Slab;
 use std::alloc::{AllocError, Global};
 use std::io::{Read, Write};
@@ -233,6 +234,8 @@ impl<'l, S: Read + Write + Drop> Peers<'l, S> {
         // Every peer that isn't listed is as it was.
         ensures others { AllOthersStay (looked_at self.old) self.old self.new }
     {
+        // the laws of frames behind others, for the prover
+        frames();
         let count = self.listed.len();
         self.left_out = count;
         for place in 0..count {

@@ -10,6 +10,7 @@ use crate::standing::Doing;
 use iso_durable::Log;
 use iso_guard::Rooms;
 use iso_peers::DurableHost;
+use iso_wire::laws::frames;
 use std::io::{Read, Write};
 
 /// How many bytes are read at once.
@@ -46,6 +47,8 @@ pub(crate) fn read_share<L: Log, S: Read + Write + Drop>(
     ensures step { IsInStep L.is_ready L.synced L.pending host.old
         → IsInStep L.is_ready L.synced L.pending host.new }
 {
+    // the laws of frames behind others, for the prover
+    frames();
     let mut left = peer.line.terms.limits.share;
     for _ in 0..READS {
         if left == 0 || !peer.may_have_come || is_full(host) {

@@ -9,8 +9,8 @@ use crate::notes::{Notes, Told};
 use iso_durable::{Log, LogFailed};
 use iso_host::laws::one_journal;
 use iso_host::{Link, PeerFault};
+use iso_peers::laws::piece_by_piece;
 use iso_peers::{Connection, DurableHost, TurnFault, Turned};
-use iso_wire::laws::splits_once;
 
 /// How taking a peer's bytes ends at a fault, once so many are taken.
 fn stopped_at(used: usize, fault: TurnFault) -> Result<Turned, LogFailed>
@@ -48,9 +48,9 @@ pub(crate) fn take_noted<L: Log>(
     ensures step { IsInStep L.is_ready L.synced L.pending host.old
         → IsInStep L.is_ready L.synced L.pending host.new }
 {
-    // the laws that bodies have one journal, and that bytes have one split into frames, for the prover
+    // the laws that bodies have one journal, and of pieces that follow others, for the prover
     one_journal(host.issuer());
-    splits_once();
+    piece_by_piece(&host.host);
     let mut used = 0;
     'pieces: loop {
         match host.take(connection, &bytes[used..]) {

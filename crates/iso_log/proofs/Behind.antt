@@ -1,10 +1,11 @@
 -- The records behind the heading, one after another, and pieces of them as they are read.
 use Rattle.std.proofs.Common.{◌≡◌, ◌∙◌, ◌≤◌, ◌<◌, ℕ, zero, suc, ◌+◌, ◌-◌, ◌*◌, refl, sym, ap, arith, List, [], ◌∷◌, ◌++◌, length, take, drop, append-nil, append_assoc}
 use Rattle.std.specs.Prelude.{slice_index}
-use Rattle.std.proofs.lemmas.List.{take_all, ext_get_or}
+use Rattle.std.proofs.lemmas.List.{take_all, ext_get_or, length-take-le, length-drop, drop-append-le}
 use Rattle.sqlite_disk.specs.Disk.{Holds}
 use Rattle.iso_log.specs.Slots.{slot, slots_from, records_from, records_of}
 use Rattle.iso_log.specs.Log.{IsFile}
+use Rattle.iso_log.specs.Headed.{behind}
 use Rattle.iso_log.proofs.Crash.{sized, count_is}
 use Rattle.iso_log.proofs.Slots.{slot_at, slot_len}
 
@@ -19,48 +20,24 @@ next_from slots count file is (suc n) j (suc i) all lt =
     rw (is.whole j (omega (arith, lt))) (ap (λ m. take m (slot file j ∷ records_from n (j + 1) file)) more
     ∙ ap (λ (l : List (List ℕ)). slot file j ∷ l) (next_from slots count file is n (j + 1) i (omega (arith, all)) (omega (arith, lt)) ∙ ap (λ m. take i (records_from n (j + 1) file) ++ slot file m ∷ []) at))
 
-pub next_record : (slots count : ℕ) (file : List ℕ) (place : ℕ) → IsFile slots count file → place < count → take (place + 1) (records_of file) ≡ take place (records_of file) ++ slot file place ∷ []
+next_record : (slots count : ℕ) (file : List ℕ) (place : ℕ) → IsFile slots count file → place < count → take (place + 1) (records_of file) ≡ take place (records_of file) ++ slot file place ∷ []
 next_record slots count file place is lt =
     let same = sized slots file is.size in
     let at : 0 + place ≡ place = omega arith in
     ap (take (place + 1)) same ∙ next_from slots count file is slots 0 place (omega arith) (omega (arith, lt)) ∙ ap (λ m. take place (records_from slots 0 file) ++ slot file m ∷ []) at
     ∙ ap (λ (l : List (List ℕ)). take place l ++ slot file place ∷ []) (sym same)
 
-pub take_long : (n : ℕ) (xs : List (List ℕ)) → n ≤ length xs → length (take n xs) ≡ n
-take_long zero xs le = refl
-take_long (suc n) [] le = absurd (omega (arith, le))
-take_long (suc n) (x ∷ xs) le = ap suc (take_long n xs (omega (arith, le)))
-
-drop_front : (xs ys : List (List ℕ)) → 1 ≤ length xs → drop 1 (xs ++ ys) ≡ drop 1 xs ++ ys
-drop_front [] ys le = absurd (omega (arith, le))
-drop_front (x ∷ xs) ys le = refl
-
--- the records behind the heading, up to a place
-abbrev pub behind : ℕ → List ℕ → List (List ℕ)
-behind place file = drop 1 (take place (records_of file))
-
-pub none_behind : (file : List ℕ) → behind 1 file ≡ []
-none_behind file = by_list (records_of file)
-  where
-    by_list : (xs : List (List ℕ)) → drop 1 (take 1 xs) ≡ []
-    by_list [] = refl
-    by_list (x ∷ xs) = refl
-
 pub one_more : (slots count : ℕ) (file : List ℕ) (place : ℕ) → IsFile slots count file → place < count → 1 ≤ place → behind (place + 1) file ≡ behind place file ++ slot file place ∷ []
 one_more slots count file place is lt least =
-    let long = take_long place (records_of file) (omega (arith, lt, count_is slots count file is)) in
-    ap (drop 1) (next_record slots count file place is lt) ∙ drop_front (take place (records_of file)) (slot file place ∷ []) (omega (arith, long, least))
+    let long = length-take-le place (records_of file) (omega (arith, lt, count_is slots count file is)) in
+    ap (drop 1) (next_record slots count file place is lt) ∙ drop-append-le 1 (take place (records_of file)) (slot file place ∷ []) (omega (arith, long, least))
 
 pub all_behind : (slots count : ℕ) (file : List ℕ) (place : ℕ) → IsFile slots count file → count ≤ place → behind place file ≡ drop 1 (records_of file)
 all_behind slots count file place is le = ap (drop 1) (take_all place (records_of file) (omega (arith, le, count_is slots count file is)))
 
 pub length-behind : (slots count : ℕ) (file : List ℕ) (place : ℕ) → IsFile slots count file → place ≤ count → length (behind place file) ≡ place - 1
 length-behind slots count file place is le =
-    one_less (take place (records_of file)) ∙ ap (λ n. n - 1) (take_long place (records_of file) (omega (arith, le, count_is slots count file is)))
-  where
-    one_less : (xs : List (List ℕ)) → length (drop 1 xs) ≡ length xs - 1
-    one_less [] = refl
-    one_less (x ∷ xs) = omega arith
+    length-drop 1 (take place (records_of file)) ∙ ap (λ n. n - 1) (length-take-le place (records_of file) (omega (arith, le, count_is slots count file is)))
 
 -- ---- slots, one after another
 

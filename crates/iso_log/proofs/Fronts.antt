@@ -1,12 +1,11 @@
 -- What a crash leaves of a log whose first record is a heading, as what its other records tell.
-use Rattle.std.proofs.Common.{◌≡◌, ◌∙◌, ◌≤◌, ℕ, zero, suc, ◌+◌, ◌-◌, Bool, refl, sym, ap, arith, List, [], ◌∷◌, ◌++◌, length, take, drop, map, append-nil, length-append, take-append-drop}
-use Rattle.std.proofs.lemmas.List.{take-append-le, take_all}
-use Rattle.std.proofs.Math.Seq.{drop-append-le}
+use Rattle.std.proofs.Common.{◌≡◌, ◌∙◌, ◌≤◌, ℕ, zero, suc, Bool, refl, sym, ap, arith, List, [], ◌∷◌, ◌++◌, length, take, drop, map, length-append, take-append-drop}
+use Rattle.std.proofs.lemmas.List.{take-append-le, take_all, take-map, map-append, length-take-le, drop-append-le, drop_all}
 use Rattle.iso_log.specs.declared.log.RecordLog.{RecordLog}
 use Rattle.iso_log.specs.Slots.{records_of}
 use Rattle.iso_log.specs.Log.{IsLog, LeavesRecords}
-use Rattle.iso_log.specs.Headed.{told_behind, synced_told, pending_told, LeavesTold, LeavesFront, IsReady}
-use Rattle.iso_log.proofs.Crash.{left_records, count_is}
+use Rattle.iso_log.specs.Headed.{told_behind, synced_told, pending_told, LeavesTold, LeavesFront, IsReady, SyncsAll, AppendsOne}
+use Rattle.iso_log.proofs.Crash.{count_is}
 
 -- a front is the synced ones, and a front of the rest
 front_split : (s m : ℕ) (xs : List (List ℕ)) → s ≤ m
@@ -18,23 +17,6 @@ front_split (suc s) (suc m) (x ∷ xs) le =
     let rest = front_split s m xs (omega (arith, le)) in
     (rest.0, ap (λ (l : List (List ℕ)). x ∷ l) rest.1)
 
--- a front of one record or more isn't empty
-take_some : (s : ℕ) (xs : List (List ℕ)) → 1 ≤ s → s ≤ length xs → 1 ≤ length (take s xs)
-take_some zero xs least le = absurd (omega (arith, least))
-take_some (suc s) [] least le = absurd (omega (arith, le))
-take_some (suc s) (x ∷ xs) least le = omega arith
-
--- what a sync leaves: the records as they were, all of them synced
-pub record SyncsAll {D : Type 0} (seen : D → List ℕ) (old new : RecordLog D) : Type 0 where
-  pub all : new.synced ≡ length (records_of (seen new.disk))
-  pub same : records_of (seen new.disk) ≡ records_of (seen old.disk)
-
--- what an append leaves: a record more, and as many synced as before
-pub record AppendsOne {D : Type 0} (seen : D → List ℕ) (old new : RecordLog D)
-    (bytes : List ℕ) : Type 0 where
-  pub synced : new.synced ≡ old.synced
-  pub more : records_of (seen new.disk) ≡ records_of (seen old.disk) ++ bytes ∷ []
-
 -- a crash leaves the first of these records, and no fewer than are synced; the heading is synced
 record LeavesHeaded (may_leave : List ℕ → Type 0) (synced : ℕ)
     (records : List (List ℕ)) : Type 0 where
@@ -45,33 +27,16 @@ record LeavesHeaded (may_leave : List ℕ → Type 0) (synced : ℕ)
 -- ---- what the records tell
 
 module _ {A : Type 0} (read : List ℕ → A) where
-  -- what records tell, and others behind them
-  pub told_append : (xs ys : List (List ℕ)) → map read (xs ++ ys) ≡ map read xs ++ map read ys
-  told_append [] ys = refl
-  told_append (x ∷ xs) ys = ap (λ (l : List A). read x ∷ l) (told_append xs ys)
-
-  -- a front of records tells a front of what they tell
-  told_take : (n : ℕ) (xs : List (List ℕ)) → map read (take n xs) ≡ take n (map read xs)
-  told_take zero xs = refl
-  told_take (suc n) [] = refl
-  told_take (suc n) (x ∷ xs) = ap (λ (l : List A). read x ∷ l) (told_take n xs)
-
   -- what is behind the heading, and records behind it
   behind_append : (xs ys : List (List ℕ)) → 1 ≤ length xs
       → told_behind read (xs ++ ys) ≡ told_behind read xs ++ map read ys
-  behind_append [] ys some = absurd (omega (arith, some))
-  behind_append (x ∷ xs) ys some = told_append xs ys
+  behind_append xs ys some = ap (map read) (drop-append-le 1 xs ys some) ∙ map-append read (drop 1 xs) ys
 
   -- where all records are synced, nothing waits
   pub none_pending : {D : Type 0} → (seen : D → List ℕ) → (log : RecordLog D)
       → log.synced ≡ length (records_of (seen log.disk)) → pending_told read seen log ≡ []
   none_pending seen log all =
-      let now = records_of (seen log.disk) in
-      ap (λ n. map read (drop n now)) all ∙ ap (map read) (drop_all now)
-    where
-      drop_all : (xs : List (List ℕ)) → drop (length xs) xs ≡ []
-      drop_all [] = refl
-      drop_all (x ∷ xs) = drop_all xs
+      ap (map read) (drop_all log.synced (records_of (seen log.disk)) (omega (arith, all)))
 
   -- what a log leaves whose records a crash leaves so
   leaves_headed : {D : Type 0} → (may_leave : D → List ℕ → Type 0) → (new : RecordLog D)
@@ -84,9 +49,10 @@ module _ {A : Type 0} (read : List ℕ → A) where
       let split = front_split synced found.0 records found.1 in (
         split.0,
         left.2 ∙ ap (told_behind read) (found.2 ∙ split.1) ∙ behind_append (take synced records)
-            (take split.0 (drop synced records)) (take_some synced records left_so.least left_so.few)
+            (take split.0 (drop synced records))
+            (omega (arith, left_so.least, length-take-le synced records left_so.few))
             ∙ ap (λ (l : List A). told_behind read (take synced records) ++ l)
-            (told_take split.0 (drop synced records)),
+            (sym (take-map read split.0 (drop synced records))),
       )
 
   module _ {D : Type 0} {seen : D → List ℕ} {may_leave : D → List ℕ → Type 0}
@@ -104,19 +70,11 @@ module _ {A : Type 0} (read : List ℕ → A) where
         leaves_headed may_leave new {synced = old.synced} {records = records_of (seen old.disk)}
         (record { least = is.headed; few = synced_few old is.log_is; leaves = leaves })
 
-    -- a crash leaves what is synced, and a front of what waits
-    pub ready_leaves : (log : RecordLog D) → IsReady seen may_leave is_usable log
-        → LeavesFront (LeavesTold read may_leave log) (synced_told read seen log) (pending_told read seen log)
-    ready_leaves log is =
-        leaves_front log log is
-        (λ c here. left_records log.slots log.count log.synced
-        (seen log.disk) c is.log_is.file is.log_is.some (is.log_is.left c here))
-
     -- a record more, and what was synced is as it was
-    pub synced_same : (old new : RecordLog D) → {bytes : List ℕ}
+    pub synced_same : (old new : RecordLog D) (bytes : List ℕ)
         → IsLog seen may_leave is_usable old → AppendsOne seen old new bytes
         → synced_told read seen new ≡ synced_told read seen old
-    synced_same old new {bytes} is appends =
+    synced_same old new bytes is appends =
         let rs = records_of (seen old.disk) in
         ap (λ n. told_behind read (take n (records_of (seen new.disk)))) appends.synced
         ∙ ap (λ (l : List (List ℕ)). told_behind read (take old.synced l)) appends.more
@@ -130,25 +88,25 @@ module _ {A : Type 0} (read : List ℕ → A) where
     pending_more old bytes {o} is same =
         let rs = records_of (seen old.disk) in
         ap (map read) (drop-append-le old.synced rs (bytes ∷ []) (synced_few old is))
-        ∙ told_append (drop old.synced rs) (bytes ∷ [])
+        ∙ map-append read (drop old.synced rs) (bytes ∷ [])
         ∙ ap (λ (p : A). pending_told read seen old ++ p ∷ []) same
 
     -- so it does in the log that has the record
-    pub pending_new : (old new : RecordLog D) → {bytes : List ℕ} → {o : A}
+    pub pending_new : (old new : RecordLog D) (bytes : List ℕ) (o : A)
         → IsLog seen may_leave is_usable old → read bytes ≡ o → AppendsOne seen old new bytes
         → pending_told read seen new ≡ pending_told read seen old ++ o ∷ []
-    pending_new old new {bytes} {o} is same appends =
+    pending_new old new bytes o is same appends =
         ap (λ n. map read (drop n (records_of (seen new.disk)))) appends.synced
         ∙ ap (λ (l : List (List ℕ)). map read (drop old.synced l)) appends.more
         ∙ pending_more old bytes is same
 
     -- a crash while a record is added
-    pub append_front : {old : RecordLog D} → (new : RecordLog D) → (bytes : List ℕ)
-        → {o : A} → IsReady seen may_leave is_usable old → read bytes ≡ o
+    pub append_front : (old new : RecordLog D) (bytes : List ℕ) (o : A)
+        → IsReady seen may_leave is_usable old → read bytes ≡ o
         → LeavesRecords (may_leave new.disk) old.synced (records_of (seen old.disk) ++ bytes ∷ [])
         → LeavesFront (LeavesTold read may_leave new) (synced_told read seen old)
         (pending_told read seen old ++ o ∷ [])
-    append_front {old} new bytes {o} is same leaves = λ told left.
+    append_front old new bytes o is same leaves = λ told left.
         let rs = records_of (seen old.disk) in
         let few = synced_few old is.log_is in
         let still : old.synced ≤ length (rs ++ bytes ∷ []) =
@@ -175,24 +133,10 @@ module _ {A : Type 0} (read : List ℕ → A) where
         ∙ ap (told_behind read) (take_all (length now) now (omega arith)) ∙ ap (told_behind read) syncs.same
         ∙ sym (ap (told_behind read) (take-append-drop old.synced rs))
         ∙ behind_append (take old.synced rs) (drop old.synced rs)
-        (take_some old.synced rs is.headed (synced_few old is.log_is))
+        (omega (arith, is.headed, length-take-le old.synced rs (synced_few old is.log_is)))
 
     -- the heading stays synced
     pub still_headed : (old new : RecordLog D) → IsReady seen may_leave is_usable old
         → SyncsAll seen old new → 1 ≤ new.synced
     still_headed old new is syncs =
         omega (arith, is.headed, synced_few old is.log_is, syncs.all, ap length syncs.same)
-
-    -- where as many are synced as there are, nothing waits
-    pub none_waits : (log : RecordLog D) → IsReady seen may_leave is_usable log
-        → log.synced ≡ log.count → pending_told read seen log ≡ []
-    none_waits log is all = none_pending seen log
-        (omega (arith, all, count_is log.slots log.count (seen log.disk) is.log_is.file))
-
-    -- so all are synced
-    pub synced_already : (log : RecordLog D) → IsReady seen may_leave is_usable log
-        → log.synced ≡ log.count
-        → synced_told read seen log ≡ synced_told read seen log ++ pending_told read seen log
-    synced_already log is all =
-        sym (ap (λ (l : List A). synced_told read seen log ++ l) (none_waits log is all)
-        ∙ append-nil (synced_told read seen log))

@@ -4,8 +4,11 @@
 //! The file is zeros before its first record, and a record has no zero byte. So a record is there exactly where none of the
 //! bytes of its slot is zero, and a torn one is seen as such. This stands on one property of the disk: after a crash each
 //! byte of a write that wasn't synced is the old one or the one that was written (`Disk::mixes`).
+//!
+//! - `laws`: which records stand where in a file, and what a crash leaves of what they tell.
 #![tactic(auto)]
 
+pub mod laws;
 mod log;
 mod making;
 mod piece;

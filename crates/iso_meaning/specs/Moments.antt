@@ -103,7 +103,7 @@ date_text d = padded d.day ++ (codes " " ++ (month_name d.month ++ year_text d.y
 
 -- a time: 03:04:05
 abbrev pub time_text : Time → List ℕ
-time_text t = padded t.hour ++ (58 ∷ []) ++ padded t.minute ++ (58 ∷ []) ++ padded t.second
+time_text t = padded t.hour ++ codes ":" ++ padded t.minute ++ codes ":" ++ padded t.second
 
 -- what stands between a date and a time
 abbrev pub comma : Option Date → Option Time → List ℕ

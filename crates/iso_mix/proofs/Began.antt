@@ -2,14 +2,15 @@
 use Rattle.std.proofs.Common.{◌≡◌, ℕ, Bool, true, false, refl, arith, ap, sym, ◌∙◌, subst, List, [], ◌∷◌, ◌++◌, length, ◌<◌, ◌≤◌, ◌+◌, ◌-◌, ◌*◌, cond}
 use Rattle.std.specs.Prelude.{◌==◌, ◌&&◌, nat_lt, IfSome, Option, Some, None}
 use Rattle.std.proofs.lemmas.Bool.{and_parts}
+use Rattle.std.proofs.lemmas.Option.{cond_some}
 use Rattle.iso_order.specs.declared.act.Act.{Act}
 use Rattle.iso_order.specs.declared.key.TxKey.{TxKey}
 use Rattle.iso_order.specs.Order.{Instruction, is_valid}
-use Rattle.iso_order.proofs.Lists.{some_is}
 use Rattle.iso_mix.specs.declared.asked.Side.{Side}
 use Rattle.iso_mix.specs.declared.draft.Draft.{Draft}
 use Rattle.iso_mix.specs.declared.mix.Kind.{Kind}
 use Rattle.iso_waits.specs.declared.due.Due.{Due}
+use Rattle.iso_waits.specs.WaitLaws.{WhoWaits, StayInTime}
 use Rattle.iso_mix.specs.Asked.{asked_at, is_free, is_hold, is_granted, is_nothing, unanswered, sides_followed}
 use Rattle.iso_mix.specs.Begun.{opened, Follows}
 use Rattle.iso_mix.specs.Book.{IsBook}
@@ -20,19 +21,15 @@ use Rattle.iso_mix.proofs.Placed.{at-pushed, at-followed, none-behind, none-foll
 -- ---- the trace numbers
 
 valid-key : (key : TxKey) (a : Act) (o : Instruction) → valid_order key a ≡ Some o → o.key ≡ key
-valid-key key a o h = go (is_valid (record { key = key; act = a })) h
-  where
-    go : (b : Bool) → cond b (Some (record { key = key; act = a })) None ≡ Some o → o.key ≡ key
-    go true k = ap (λ (x : Instruction). x.key) (sym (some_is (record { key = key; act = a }) o k))
-    go false k = cc
+valid-key key a o h =
+    let made : Instruction = record { key = key; act = a } in
+    ap (λ (x : Instruction). x.key) (sym (cond_some (is_valid made) made o h).1)
 
 -- the number of a test that holds
 numbered : (test : ℕ → Bool) (number n : ℕ) (highest : ℕ) (stan : ℕ) → cond (test highest) (Some number) None ≡ Some stan → (test highest ≡ true) × (stan ≡ number)
-numbered test number n highest stan h = go (test highest) refl h
-  where
-    go : (b : Bool) → test highest ≡ b → cond b (Some number) None ≡ Some stan → (test highest ≡ true) × (stan ≡ number)
-    go true e k = (e, sym (some_is number stan k))
-    go false e k = cc
+numbered test number n highest stan h =
+    let p = cond_some (test highest) number stan h in
+    (p.0, sym p.1)
 
 pub next-number : (count highest stan : ℕ) → next_stan count highest ≡ Some stan → (highest + 2 * count + 1 < 999999) × (stan ≡ 999999 - 2 * count)
 next-number count highest stan h =
@@ -60,14 +57,14 @@ new-opened old kind d o h =
     let n = opened-number kind d (length old) o h in
     none-behind old o.key.stan (omega (arith, n.1)) (omega (arith, n.0, n.1))
 
-pub kept-opened : (old : List Side) (waiting : List Due) (last at : ℕ) (kind : Kind) (d : Draft) (o : Instruction) → IsBook old waiting last → last ≤ at →
+pub kept-opened : (who : WhoWaits) (time : StayInTime) (old : List Side) (waiting : List Due) (last at : ℕ) (kind : Kind) (d : Draft) (o : Instruction) → IsBook old waiting last → last ≤ at →
     opening_order kind d (length old) ≡ Some o → IsBook (old ++ opened d.place o ∷ []) (waiting ++ record { stan = o.key.stan; at = at } ∷ []) at
-kept-opened old waiting last at kind d o b later h =
+kept-opened who time old waiting last at kind d o b later h =
     let n = opened-number kind d (length old) o h in
     let one : OneIs old (old ++ opened d.place o ∷ []) o.key.stan (unanswered o) = λ k.
     at-pushed old (opened d.place o) k refl (omega (arith, n.0))
     ∙ ap (λ m. cond (k == m) (Some (unanswered o)) (asked_at old k)) (sym n.1) in
-    kept-begun old (old ++ opened d.place o ∷ []) waiting o.key.stan at last (unanswered o) b later (new-opened old kind d o h) refl refl one
+    kept-begun who time old (old ++ opened d.place o ∷ []) waiting o.key.stan at last (unanswered o) b later (new-opened old kind d o h) refl refl one
 
 -- ---- what follows a hold begins
 
@@ -84,14 +81,14 @@ new-followed sides kind d place o f =
     let n = followed-number kind d sides place o f in
     ap (asked_at sides) n.1 ∙ none-followed sides place f.hold f.there (free-nothing f.hold f.free) n.0
 
-pub kept-followed : (old : List Side) (waiting : List Due) (last at : ℕ) (kind : Kind) (d : Draft) (place : ℕ) (o : Instruction) → IsBook old waiting last → last ≤ at →
+pub kept-followed : (who : WhoWaits) (time : StayInTime) (old : List Side) (waiting : List Due) (last at : ℕ) (kind : Kind) (d : Draft) (place : ℕ) (o : Instruction) → IsBook old waiting last → last ≤ at →
     Follows kind d old place o → IsBook (sides_followed place o old) (waiting ++ record { stan = o.key.stan; at = at } ∷ []) at
-kept-followed old waiting last at kind d place o b later f =
+kept-followed who time old waiting last at kind d place o b later f =
     let n = followed-number kind d old place o f in
     let one : OneIs old (sides_followed place o old) o.key.stan (unanswered o) = λ k.
     at-followed old place f.hold o f.there n.0 k
     ∙ ap (λ m. cond (k == m) (Some (unanswered o)) (asked_at old k)) (sym n.1) in
-    kept-begun old (sides_followed place o old) waiting o.key.stan at last (unanswered o) b later (new-followed old kind d place o f) refl refl one
+    kept-begun who time old (sides_followed place o old) waiting o.key.stan at last (unanswered o) b later (new-followed old kind d place o f) refl refl one
 
 -- what is made of it is an order that follows the hold
 pub follower-made : (kind : Kind) (d : Draft) (hold : Instruction) (stan base : ℕ) (a : Act) (r : Option Instruction) → follower_act kind hold d.share ≡ Some a → base ≡ follower_base kind →

@@ -1,4 +1,4 @@
-pub mod Began
-pub mod Kept
-pub mod Placed
-pub mod Shares
+mod Began
+mod Kept
+mod Placed
+mod Shares

@@ -1,17 +1,20 @@
 -- Where orders lie.
 use Rattle.std.proofs.Common.{◌≡◌, ◌≢◌, ℕ, zero, suc, Bool, true, false, refl, arith, ap, sym, ◌∙◌, List, [], ◌∷◌, ◌++◌, length, ◌<◌, ◌≤◌, ◌+◌, ◌-◌, ◌*◌, ◌%◌, cond, slice_set}
 use Rattle.std.specs.Prelude.{◌==◌, nat_le, nat_lt, Option, Some, None, slice_get, option_map}
+use Rattle.std.proofs.lemmas.Bool.{eqb-true, eqb-false, eq-eqb, ne_eqb}
 use Rattle.std.proofs.lemmas.Grind.{common_steps}
-use Rattle.std.proofs.lemmas.Option.{slice_get_past, slice_get_within}
+use Rattle.std.proofs.lemmas.Option.{none-some, same_Some, slice_get_past}
 use Rattle.std.proofs.lemmas.List.{length-append}
-use Rattle.iso_order.proofs.Plain.{same_number, number_self, other_number, unlike, none-some}
 use Rattle.iso_order.specs.Order.{Instruction}
-use Rattle.iso_order.proofs.Lists.{some_is, get-last}
 use Rattle.iso_mix.specs.declared.asked.Asked.{Asked}
 use Rattle.iso_mix.specs.declared.asked.Side.{Side}
 use Rattle.iso_mix.specs.Asked.{place_of, follows, part_of, part_in, asked_at, changed_in, changed_at, with_code, answered, sides_answered, unanswered, followed, sides_followed, is_nothing}
 
 -- ---- lists
+
+get-last : {X : Type 0} (xs : List X) (x : X) → slice_get (xs ++ x ∷ []) (length xs) ≡ Some x
+get-last [] x = refl
+get-last (y ∷ ys) x = get-last ys x
 
 get-front : {X : Type 0} (xs : List X) (x : X) (i : ℕ) → i < length xs → slice_get (xs ++ x ∷ []) i ≡ slice_get xs i
 get-front [] x i h = absurd (omega (arith, h))
@@ -46,10 +49,10 @@ not-lt a b h = grind (arith, common_steps)
 
 -- a place and which of the two it is make a trace number
 second : (n : ℕ) → follows n ≡ true → (999999 - n) % 2 ≡ 1
-second n h = same_number ((999999 - n) % 2) 1 h
+second n h = eqb-true ((999999 - n) % 2) 1 h
 
 first : (n : ℕ) → follows n ≡ false → (999999 - n) % 2 ≡ 0
-first n h = omega (arith, unlike ((999999 - n) % 2) 1 h)
+first n h = omega (arith, eqb-false ((999999 - n) % 2) 1 h)
 
 pub one-number : (n m : ℕ) → n ≤ 999999 → m ≤ 999999 → place_of n ≡ place_of m → follows n ≡ follows m → n ≡ m
 one-number n m hn hm p f = go (follows m) refl
@@ -65,7 +68,7 @@ pub at-pushed : (sides : List Side) (s : Side) (n : ℕ) → s.follower ≡ None
 at-pushed sides s n none few = by_most (nat_le n 999999) refl
   where
     apart : n ≢ 999999 - 2 * length sides → (x : Option Asked) → x ≡ cond (n == 999999 - 2 * length sides) (Some s.first) x
-    apart h x = sym (ap (λ b. cond b (Some s.first) x) (other_number n (999999 - 2 * length sides) h))
+    apart h x = sym (ap (λ b. cond b (Some s.first) x) (ne_eqb n (999999 - 2 * length sides) h))
 
     by_part : n ≤ 999999 → place_of n ≡ length sides → (f : Bool) → follows n ≡ f →
         part_of f s ≡ cond (n == 999999 - 2 * length sides) (Some s.first) (part_in f (slice_get sides (place_of n)))
@@ -74,7 +77,7 @@ at-pushed sides s n none few = by_most (nat_le n 999999) refl
         ∙ apart (λ is. omega (arith, second n e, is, few)) (part_in true (slice_get sides (place_of n)))
     by_part most at false e =
         sym (ap (λ b. cond b (Some s.first) (part_in false (slice_get sides (place_of n))))
-        (number_self n (999999 - 2 * length sides) (omega (arith, first n e, at, most))))
+        (eq-eqb n (999999 - 2 * length sides) (omega (arith, first n e, at, most))))
 
     by_place : n ≤ 999999 → (b c : Bool) → nat_lt (place_of n) (length sides) ≡ b → (place_of n == length sides) ≡ c →
         part_in (follows n) (slice_get (sides ++ s ∷ []) (place_of n)) ≡ cond (n == 999999 - 2 * length sides) (Some s.first) (part_in (follows n) (slice_get sides (place_of n)))
@@ -83,11 +86,11 @@ at-pushed sides s n none few = by_most (nat_le n 999999) refl
         ap (part_in (follows n)) (get-front sides s (place_of n) less)
         ∙ apart (λ is. omega (arith, less, is, few)) (part_in (follows n) (slice_get sides (place_of n)))
     by_place most false true h k =
-        let at : place_of n ≡ length sides = same_number (place_of n) (length sides) k in
+        let at : place_of n ≡ length sides = eqb-true (place_of n) (length sides) k in
         ap (λ i. part_in (follows n) (slice_get (sides ++ s ∷ []) i)) at ∙ ap (part_in (follows n)) (get-last sides s)
         ∙ by_part most at (follows n) refl
     by_place most false false h k =
-        let more : length sides < place_of n = omega (arith, not-lt (place_of n) (length sides) h, unlike (place_of n) (length sides) k) in
+        let more : length sides < place_of n = omega (arith, not-lt (place_of n) (length sides) h, eqb-false (place_of n) (length sides) k) in
         ap (part_in (follows n)) (slice_get_past (sides ++ s ∷ []) (place_of n) (omega (arith, more, length-append sides (s ∷ [])))
         ∙ sym (slice_get_past sides (place_of n) (omega (arith, more))))
         ∙ apart (λ is. omega (arith, more, is, few)) (part_in (follows n) (slice_get sides (place_of n)))
@@ -140,23 +143,23 @@ pub at-changed : (step : Side → Side) (place : ℕ) (sides : List Side) (s : S
 at-changed step place sides s m x there most at this other n = by_most (nat_le n 999999) refl
   where
     apart : n ≢ m → (y : Option Asked) → y ≡ cond (n == m) x y
-    apart h y = sym (ap (λ b. cond b x y) (other_number n m h))
+    apart h y = sym (ap (λ b. cond b x y) (ne_eqb n m h))
 
     by_part : n ≤ 999999 → place_of n ≡ place → (c : Bool) → (n == m) ≡ c → asked_at (changed_at step place sides) n ≡ cond (n == m) x (asked_at sides n)
     by_part le here true e =
-        let is : n ≡ m = same_number n m e in
+        let is : n ≡ m = eqb-true n m e in
         ap (asked_at (changed_at step place sides)) is ∙ changed-here step place sides s m there most at ∙ this
         ∙ sym (ap (λ b. cond b x (asked_at sides n)) e)
     by_part le here false e =
-        let not_m : n ≢ m = unlike n m e in
+        let not_m : n ≢ m = eqb-false n m e in
         changed-here step place sides s n there le here
         ∙ other (follows n) (λ f. not_m (one-number n m le most (here ∙ sym at) f))
         ∙ sym (found-here place sides s n there le here) ∙ apart not_m (asked_at sides n)
 
     by_place : n ≤ 999999 → (c : Bool) → (place_of n == place) ≡ c → asked_at (changed_at step place sides) n ≡ cond (n == m) x (asked_at sides n)
-    by_place le true e = by_part le (same_number (place_of n) place e) (n == m) refl
+    by_place le true e = by_part le (eqb-true (place_of n) place e) (n == m) refl
     by_place le false e =
-        let away : place_of n ≢ place = unlike (place_of n) place e in
+        let away : place_of n ≢ place = eqb-false (place_of n) place e in
         changed-elsewhere step place sides s n there away ∙ apart (λ is. away (ap place_of is ∙ at)) (asked_at sides n)
 
     by_most : (b : Bool) → nat_le n 999999 ≡ b → asked_at (changed_at step place sides) n ≡ cond (n == m) x (asked_at sides n)
@@ -183,7 +186,7 @@ lies sides m a h = by_most (nat_le m 999999) refl
 
 answered-this : (f : Bool) (code : ℕ) (s : Side) (a : Asked) → part_of f s ≡ Some a → part_of f (answered f code s) ≡ Some (with_code code a)
 answered-this true code s a h = ap (option_map (with_code code)) h
-answered-this false code s a h = ap (λ (y : Asked). Some (with_code code y)) (some_is s.first a h)
+answered-this false code s a h = ap (λ (y : Asked). Some (with_code code y)) (same_Some s.first a h)
 
 answered-other : (f g : Bool) (code : ℕ) (s : Side) → f ≢ g → part_of f (answered g code s) ≡ part_of f s
 answered-other true true code s h = absurd (h refl)
@@ -201,7 +204,7 @@ at-answered sides m code a h =
 -- ---- what follows a hold
 
 pub second-place : (place : ℕ) → 2 * place + 1 < 999999 → (place_of (999998 - 2 * place) ≡ place) × (follows (999998 - 2 * place) ≡ true)
-second-place place few = (omega (arith, few), number_self ((999999 - (999998 - 2 * place)) % 2) 1 (omega (arith, few)))
+second-place place few = (omega (arith, few), eq-eqb ((999999 - (999998 - 2 * place)) % 2) 1 (omega (arith, few)))
 
 followed-other : (f : Bool) (o : Instruction) (s : Side) → f ≢ true → part_of f (followed o s) ≡ part_of f s
 followed-other true o s h = absurd (h refl)
@@ -230,9 +233,3 @@ none-behind sides n most behind =
     let le : nat_le n 999999 ≡ true = grind (arith, common_steps, most) in
     ap (λ b. cond b (part_in (follows n) (slice_get sides (place_of n))) None) le
     ∙ ap (part_in (follows n)) (slice_get_past sides (place_of n) behind)
-
-pub none-lower : (sides : List Side) (n : ℕ) (a : Asked) → asked_at sides n ≡ Some a → 1000000 ≤ n + 2 * length sides
-none-lower sides n a h =
-    let l = lies sides n a h in
-    let within : place_of n < length sides = slice_get_within sides (place_of n) l.0 l.1 in
-    omega (arith, within, l.2)

@@ -1,9 +1,9 @@
 -- The orders of a mix, and which of them wait for an answer.
-use Rattle.std.specs.Prelude.{◌≡◌, ◌≢◌, ◌==◌, ℕ, false, List, [], ◌∷◌, Option, Some, None, count_by, nat_lt, if◌then◌else◌}
+use Rattle.std.specs.Prelude.{◌≡◌, ◌≢◌, ℕ, false, List, [], ◌∷◌, Option, Some, None, nat_lt, if◌then◌else◌}
 use Rattle.iso_order.specs.Order.{Instruction}
 use Rattle.iso_order.specs.declared.key.TxKey.{TxKey}
 use Rattle.iso_waits.specs.declared.due.Due.{Due}
-use Rattle.iso_waits.specs.Waits.{AreInTime, moment_after, put_off, without}
+use Rattle.iso_waits.specs.Waits.{AreInTime, moment_after, put_off, times, without}
 use Rattle.iso_mix.specs.declared.asked.Asked.{Asked}
 use Rattle.iso_mix.specs.declared.asked.Side.{Side}
 use Rattle.iso_mix.specs.declared.hearing.Hearing.{Hearing}
@@ -19,7 +19,7 @@ HaveOwnNumbers sides = (stan : ℕ) (a : Asked) → asked_at sides stan ≡ Some
 -- each order without an answer waits once, and nothing else does
 abbrev pub AreAwaited : List Due → List Side → Type 0
 AreAwaited waiting sides =
-    (stan : ℕ) → count_by (λ d. d.stan == stan) waiting ≡ (if is_open_at sides stan then 1 else 0)
+    (stan : ℕ) → times stan waiting ≡ (if is_open_at sides stan then 1 else 0)
 
 -- the orders, who waits for an answer, and by when the last of these is due
 pub record IsBook (sides : List Side) (waiting : List Due) (last : ℕ) : Type 0 where

@@ -22,6 +22,7 @@ use crate::mix::Kind;
 use crate::orders::{follower_at, opening_order};
 use crate::taken::taken_from;
 use iso_order::{Order, Told};
+use iso_waits::laws::who_waits;
 use iso_waits::{Due, first_of, is_empty, leave_out, moment_after, put_off, wait};
 use std::alloc::{AllocError, Global};
 use std::collections::VecDeque;
@@ -74,6 +75,8 @@ impl Sides {
         ensures unchanged { OnErr result (sides_in self.new ≡ sides_in self.old) }
         ensures waiting { OnErr result (waiting_in self.new ≡ waiting_in self.old) }
     {
+        // the laws of those who wait, for the prover
+        who_waits();
         let Some(order) = opening_order(kind, draft, self.made.len()) else {
             return Ok(None);
         };
@@ -99,6 +102,8 @@ impl Sides {
         ensures unchanged { OnErr result (sides_in self.new ≡ sides_in self.old) }
         ensures waiting { OnErr result (waiting_in self.new ≡ waiting_in self.old) }
     {
+        // the laws of those who wait, for the prover
+        who_waits();
         let Some(place) = front_of(&self.ready) else {
             return Ok(None);
         };
@@ -162,6 +167,8 @@ impl Sides {
         // The orders and their answers stay as they were.
         ensures sides { sides_in self.new ≡ sides_in self.old }
     {
+        // the laws of those who wait, for the prover
+        who_waits();
         self.clock = self.clock.max(now);
         let Some(first) = first_of(&self.waiting) else {
             return None;
@@ -220,6 +227,8 @@ impl Sides {
         // Without memory the orders and their answers stay as they were.
         ensures unchanged { OnErr result (sides_in self.new ≡ sides_in self.old) }
     {
+        // the law that all others go on to wait, for the prover
+        who_waits();
         let asked = asked_at(&self.made, told.key.stan);
         let hearing = hearing_of(&asked, &told.key, told.code);
         match hearing {
@@ -241,6 +250,8 @@ impl Sides {
         ensures none_before { IfSome result (λ at. IsKept self.now
             → AllByRecursion (λ d. at ≤ d.at) (waiting_in self.now)) }
     {
+        // the law that no other is due before the one in front, for the prover
+        who_waits();
         match first_of(&self.waiting) {
             Some(first) => Some(first.at),
             None => None,
@@ -261,6 +272,8 @@ impl Sides {
         // In books that are in order, it is so exactly where each order has its answer.
         ensures closed { IsKept self.now → (IsTrue result ↔ AreAllAnswered (sides_in self.now)) }
     {
+        // the law that none waits where no order does, for the prover
+        who_waits();
         is_empty(&self.waiting)
     }
 

@@ -7,8 +7,8 @@ use Rattle.std.specs.List.{list_all}
 use Rattle.std.proofs.lemmas.Bool.{and_parts, and_from, cases_lt}
 use Rattle.std.proofs.lemmas.Bool.Decides.{nat_tests}
 use Rattle.iso_wire.specs.Decimal.{decimal, are_digits, number_after, number}
-use Rattle.iso_wire.proofs.Decimals.{power-up, list_all-decimal, length-decimal, number-decimal}
-use Rattle.iso_order.specs.Requests.{shortest, acquirer_code}
+use Rattle.iso_wire.specs.DecimalLaws.{DecimalLaws}
+use Rattle.iso_order.specs.Requests.{AcquirersInOwnDigits, shortest, acquirer_code}
 use Rattle.iso_parts.specs.Class.{is_digit}
 
 power_next : (n : ℕ) → 10 ^ suc n ≡ 10 ^ n * 10
@@ -62,15 +62,16 @@ some_digits : (ds : List ℕ) → length ds ≡ 11 → (1 ≤ length (shortest d
 some_digits [] size = absurd (omega arith)
 some_digits (d ∷ ds) size = let sizes = length-shortest d ds in (sizes.0, omega (arith, sizes.1))
 
-pub are_digits-acquirer : (v : ℕ) → are_digits 1 11 (acquirer_code v) ≡ true
-unfolding acquirer_code
-are_digits-acquirer v =
-    let sizes = some_digits (decimal 11 v) (length-decimal 11 v) in
-    digits-by 1 11 (shortest (decimal 11 v)) sizes.0 sizes.1 (list_all-shortest (decimal 11 v) (list_all-decimal 11 v))
+module _ (decimals : DecimalLaws) where
+  pub are_digits-acquirer : (v : ℕ) → are_digits 1 11 (acquirer_code v) ≡ true
+  unfolding acquirer_code
+  are_digits-acquirer v =
+      let sizes = some_digits (decimal 11 v) (decimals.size 11 v) in
+      digits-by 1 11 (shortest (decimal 11 v)) sizes.0 sizes.1 (list_all-shortest (decimal 11 v) (decimals.digits 11 v))
 
-pub number-acquirer : (v : ℕ) → v < 10 ^ 11 → number (acquirer_code v) ≡ v
-unfolding acquirer_code
-number-acquirer v lt = number-shortest (decimal 11 v) ∙ number-decimal 11 v lt
+  pub number-acquirer : (v : ℕ) → v < 10 ^ 11 → number (acquirer_code v) ≡ v
+  unfolding acquirer_code
+  number-acquirer v lt = number-shortest (decimal 11 v) ∙ decimals.number 11 v lt
 
 -- ---- a number has its own digits
 
@@ -101,16 +102,6 @@ shortest-zero : (ds : List ℕ) → 1 ≤ length ds → shortest (48 ∷ ds) ≡
 shortest-zero [] some = absurd (omega arith)
 shortest-zero (d ∷ ds) some = refl
 
-shortest-more : (n k v : ℕ) → 1 ≤ n → v < 10 ^ n → shortest (decimal (k + n) v) ≡ shortest (decimal n v)
-shortest-more n zero v some lt = let none : 0 + n ≡ n = omega arith in rw none refl
-shortest-more n (suc k) v some lt =
-    let size = length-decimal (k + n) v in
-    let next : suc k + n ≡ suc (k + n) = omega arith in
-    ap (λ (i : ℕ). shortest (decimal i v)) next
-    ∙ ap shortest (zero-before (k + n) v (power-up v n (k + n) lt (omega arith)))
-    ∙ shortest-zero (decimal (k + n) v) (omega arith)
-    ∙ shortest-more n k v some lt
-
 shortest-own : (n v : ℕ) → v < 10 ^ suc n → (suc n ≡ 1) ⊎ (10 ^ n ≤ v) → shortest (decimal (suc n) v) ≡ decimal (suc n) v
 shortest-own zero v lt least = refl
 shortest-own (suc n) v lt (inl one) = absurd (omega arith)
@@ -118,17 +109,8 @@ shortest-own (suc n) v lt (inr low) =
     let front = no_zero-before (suc n) v low lt in
     rw front.2 (shortest-same front.0 front.1 front.3)
 
--- an acquirer of n digits, the first of which is needed, is written with these
-pub acquirer-own : (n v : ℕ) → 1 ≤ n → n ≤ 11 → v < 10 ^ n → (n ≡ 1) ⊎ (10 ^ (n - 1) ≤ v) → acquirer_code v ≡ decimal n v
-unfolding acquirer_code
-acquirer-own zero v some few lt least = absurd (omega arith)
-acquirer-own (suc n) v some few lt least =
-    let whole : 10 - n + suc n ≡ 11 = omega arith in
-    let before : suc n - 1 ≡ n = omega arith in
-    ap (λ (k : ℕ). shortest (decimal k v)) (sym whole) ∙ shortest-more (suc n) (10 - n) v some lt ∙ shortest-own n v lt (rw before at least)
-
 -- a number of at most eleven digits
-pub few-digits : (n v : ℕ) → v ≤ 99999999999 → (n ≡ 1) ⊎ (10 ^ (n - 1) ≤ v) → n ≤ 11
+few-digits : (n v : ℕ) → v ≤ 99999999999 → (n ≡ 1) ⊎ (10 ^ (n - 1) ≤ v) → n ≤ 11
 few-digits n v small (inl one) = omega arith
 few-digits n v small (inr low) = few_by (cases_lt (n - 1) 11)
   where
@@ -139,3 +121,31 @@ few-digits n v small (inr low) = few_by (cases_lt (n - 1) 11)
         let least : 10 ^ 11 ≤ 10 ^ (n - 1) = pow-le-pow_right ten {i = 11} {j = n - 1} many in
         let whole : 99999999999 < 10 ^ 11 = omega arith in
         absurd (omega arith)
+
+module _ (decimals : DecimalLaws) where
+  shortest-more : (n k v : ℕ) → 1 ≤ n → v < 10 ^ n → shortest (decimal (k + n) v) ≡ shortest (decimal n v)
+  shortest-more n zero v some lt = let none : 0 + n ≡ n = omega arith in rw none refl
+  shortest-more n (suc k) v some lt =
+      let size = decimals.size (k + n) v in
+      let next : suc k + n ≡ suc (k + n) = omega arith in
+      let ten : 0 < 10 = omega arith in
+      let most : 10 ^ n ≤ 10 ^ (k + n) = pow-le-pow_right ten {i = n} {j = k + n} (omega arith) in
+      ap (λ (i : ℕ). shortest (decimal i v)) next
+      ∙ ap shortest (zero-before (k + n) v (omega arith))
+      ∙ shortest-zero (decimal (k + n) v) (omega arith)
+      ∙ shortest-more n k v some lt
+
+  -- an acquirer of n digits, the first of which is needed, is written with these
+  acquirer-own : (n v : ℕ) → 1 ≤ n → n ≤ 11 → v < 10 ^ n → (n ≡ 1) ⊎ (10 ^ (n - 1) ≤ v) → acquirer_code v ≡ decimal n v
+  unfolding acquirer_code
+  acquirer-own zero v some few lt least = absurd (omega arith)
+  acquirer-own (suc n) v some few lt least =
+      let whole : 10 - n + suc n ≡ 11 = omega arith in
+      let before : suc n - 1 ≡ n = omega arith in
+      ap (λ (k : ℕ). shortest (decimal k v)) (sym whole) ∙ shortest-more (suc n) (10 - n) v some lt ∙ shortest-own n v lt (rw before at least)
+
+-- the law of own digits
+pub own_digits_lem : DecimalLaws → AcquirersInOwnDigits
+own_digits_lem decimals digits v some few lt least =
+    let most = few-digits digits v few least in
+    (most, acquirer-own decimals digits v some most lt least)

@@ -6,7 +6,6 @@ use Rattle.std.proofs.lemmas.Bool.{and_parts, leb-true}
 use Rattle.std.proofs.lemmas.Bool.Decides.{nat_tests}
 use Rattle.iso_order.specs.Pan.{is_pan}
 use Rattle.iso_wire.specs.Decimal.{are_digits, number, number_in}
-use Rattle.iso_wire.proofs.Decimals.{are_digits-most}
 use Rattle.iso_parts.specs.Class.{is_digit}
 
 pub list_all-take : {X : Type 0} (p : X → Bool) (n : ℕ) (xs : List X) → list_all p xs ≡ true → list_all p (take n xs) ≡ true
@@ -21,11 +20,16 @@ list_all-drop p zero xs all = all
 list_all-drop p (suc n) [] all = refl
 list_all-drop p (suc n) (x ∷ xs) all = list_all-drop p n xs (and_parts (p x) (list_all p xs) all).1
 
--- how many digits there are
+-- how many digits there are, and may be
 pub are_digits-least : (least most : ℕ) (text : List ℕ) → are_digits least most text ≡ true → least ≤ length text
 are_digits-least least most text h =
     let sizes = and_parts (nat_le least (length text) && nat_le (length text) most) (list_all is_digit text) h in
     leb-true least (length text) (and_parts (nat_le least (length text)) (nat_le (length text) most) sizes.0).0
+
+are_digits-most : (least most : ℕ) (text : List ℕ) → are_digits least most text ≡ true → length text ≤ most
+are_digits-most least most text h =
+    let sizes = and_parts (nat_le least (length text) && nat_le (length text) most) (list_all is_digit text) h in
+    leb-true (length text) most (and_parts (nat_le least (length text)) (nat_le (length text) most) sizes.0).1
 
 -- a number was read of digits
 some_by : (t : Bool) (x n : ℕ) → (if t then Some x else None) ≡ Some n → t ≡ true

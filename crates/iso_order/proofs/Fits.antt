@@ -13,10 +13,10 @@ use Rattle.iso_table.specs.HostReady.{host_row, IsHostReady}
 use Rattle.iso_table.specs.Layout.{Layout, row_at}
 use Rattle.iso_wire.specs.Contents.{Contents}
 use Rattle.iso_wire.specs.Decimal.{decimal}
+use Rattle.iso_wire.specs.DecimalLaws.{DecimalLaws}
 use Rattle.iso_wire.specs.Elements.{value_in}
 use Rattle.iso_wire.specs.Refusal.{refused_field, refused_by, first_refusal, message_refusal}
 use Rattle.iso_wire.specs.Spelling.{PartAs, Parts}
-use Rattle.iso_wire.proofs.Decimals.{list_all-decimal, length-decimal}
 use Rattle.iso_order.specs.Fields.{text}
 use Rattle.iso_parts.specs.Mti.{is_answered}
 use Rattle.iso_order.specs.Fitting.{IsAskedUnder, ResponsesFit}
@@ -67,33 +67,33 @@ pub approval_by : (t : Bool) (v : List ℕ) (P : List ℕ → Type 0) → P v �
 approval_by true v P here = here
 approval_by false v P here = tt
 
-approval_taken : PartLaws → (t : Layout) (m : Contents) (a : Outcome) → IsHostReady t → IfSome (approval m a) (IsTaken t.rows 38)
-approval_taken laws t m a ready =
+approval_taken : PartLaws → DecimalLaws → (t : Layout) (m : Contents) (a : Outcome) → IsHostReady t → IfSome (approval m a) (IsTaken t.rows 38)
+approval_taken laws decimals t m a ready =
     approval_by (is_approved m a) (decimal 6 a.seq) (IsTaken t.rows 38)
     (row_taken laws (host_row 38 true (Text 6)) (row_at t.rows 38) (decimal 6 a.seq) refl ready.rows.1.1.1.1.1.1.1.1.1.1.0
-    (λ s shape. digits_fit s 6 (decimal 6 a.seq) shape (length-decimal 6 a.seq) (list_all-decimal 6 a.seq)))
+    (λ s shape. digits_fit s 6 (decimal 6 a.seq) shape (decimals.size 6 a.seq) (decimals.digits 6 a.seq)))
 
-code_taken : PartLaws → (t : Layout) (a : Outcome) → IsHostReady t → IsTaken t.rows 39 (decimal 2 a.code)
-code_taken laws t a ready =
+code_taken : PartLaws → DecimalLaws → (t : Layout) (a : Outcome) → IsHostReady t → IsTaken t.rows 39 (decimal 2 a.code)
+code_taken laws decimals t a ready =
     row_taken laws (host_row 39 true (Text 2)) (row_at t.rows 39) (decimal 2 a.code) refl ready.rows.1.1.1.1.1.1.1.1.1.1.1.0
-    (λ s shape. digits_fit s 2 (decimal 2 a.code) shape (length-decimal 2 a.code) (list_all-decimal 2 a.code))
+    (λ s shape. digits_fit s 2 (decimal 2 a.code) shape (decimals.size 2 a.code) (decimals.digits 2 a.code))
 
 sign_by : (t : Bool) → is_letter_or_digit (if t then 68 else 67) ≡ true
 sign_by true = refl
 sign_by false = refl
 
-additional-codes : (currency : List ℕ) (z : ℤ) → list_all is_letter_or_digit currency ≡ true → list_all is_letter_or_digit (additional currency z) ≡ true
-additional-codes currency z codes =
+additional-codes : DecimalLaws → (currency : List ℕ) (z : ℤ) → list_all is_letter_or_digit currency ≡ true → list_all is_letter_or_digit (additional currency z) ≡ true
+additional-codes decimals currency z codes =
     let digits = decimal 12 (unsigned_abs z) in
-    let amount = list_all-more is_digit is_letter_or_digit digit_code digits (list_all-decimal 12 (unsigned_abs z)) in
+    let amount = list_all-more is_digit is_letter_or_digit digit_code digits (decimals.digits 12 (unsigned_abs z)) in
     list_all-append is_letter_or_digit currency (sign z ∷ digits)
     ∙ and_from _ _ codes (and_from _ _ (sign_by (int_lt z (pos 0))) amount)
 
 -- an additional amount has twenty characters
-pub length-additional : (currency : List ℕ) (z : ℤ) → length currency ≡ 3 → length (additional currency z) ≡ 20
-length-additional currency z three =
+pub length-additional : DecimalLaws → (currency : List ℕ) (z : ℤ) → length currency ≡ 3 → length (additional currency z) ≡ 20
+length-additional decimals currency z three =
     let digits = decimal 12 (unsigned_abs z) in
-    let twelve = length-decimal 12 (unsigned_abs z) in
+    let twelve = decimals.size 12 (unsigned_abs z) in
     omega (arith, length-append currency (sign z ∷ digits))
 
 pub balance_by : (m : Contents) (s : Option ℤ) (P : List ℕ → Type 0) → is_showable m s ≡ true → ((z : ℤ) → is_showable m (Some z) ≡ true → P (additional (text m 49) z)) → IfSome (option_map (additional (text m 49)) s) P
@@ -105,11 +105,11 @@ shown_codes m z shown =
     let asked = (and_parts (nat_le (unsigned_abs z) 999999999999) (is_balance_inquiry (verdict m)) shown).1 in
     (and_parts (length (text m 49) == 3) (list_all is_letter_or_digit (text m 49)) (balance_inquiry-currency m asked)).1
 
-balance_taken : PartLaws → (t : Layout) (m : Contents) (a : Outcome) → IsHostReady t → is_showable m a.shown ≡ true → IfSome (balance m a) (IsTaken t.rows 54)
-balance_taken laws t m a ready shown =
+balance_taken : PartLaws → DecimalLaws → (t : Layout) (m : Contents) (a : Outcome) → IsHostReady t → is_showable m a.shown ≡ true → IfSome (balance m a) (IsTaken t.rows 54)
+balance_taken laws decimals t m a ready shown =
     balance_by m a.shown (IsTaken t.rows 54) shown
     (λ z some. row_taken laws (host_row 54 true Amounts) (row_at t.rows 54) (additional (text m 49) z) refl ready.rows.1.1.1.1.1.1.1.1.1.1.1.1.1.1.1.0
-    (λ s shape. amount_fits s (additional (text m 49) z) shape (length-additional (text m 49) z (shown-currency m (Some z) z refl some)) (additional-codes (text m 49) z (shown_codes m z some))))
+    (λ s shape. amount_fits s (additional (text m 49) z) shape (length-additional decimals (text m 49) z (shown-currency m (Some z) z refl some)) (additional-codes decimals (text m 49) z (shown_codes m z some))))
 
 -- ---- each element
 
@@ -122,13 +122,13 @@ element_by false false false true x y z v P a b c d = d
 element_by false false false false x y z v P a b c d = tt
 
 -- an element of a response isn't refused
-pub element_taken : PartLaws → (t : Layout) (m : Contents) (a : Outcome) → IsAskedUnder t m a → (n : ℕ) → IfSome (element m a n) (IsTaken t.rows n)
-element_taken laws t m a s n =
+pub element_taken : PartLaws → DecimalLaws → (t : Layout) (m : Contents) (a : Outcome) → IsAskedUnder t m a → (n : ℕ) → IfSome (element m a n) (IsTaken t.rows n)
+element_taken laws decimals t m a s n =
     let at = λ (k : ℕ) (v : Option (List ℕ)) (here : IfSome v (IsTaken t.rows k)) (is : (n == k) ≡ true). subst (λ (j : ℕ). IfSome v (IsTaken t.rows j)) (sym (eqb-true n k is)) here in
     element_by (n == 38) (n == 39) (n == 54) (is_echoed n) (approval m a) (Some (decimal 2 a.code)) (balance m a) (value_in m.elements n) (IsTaken t.rows n)
-    (at 38 (approval m a) (approval_taken laws t m a s.ready))
-    (at 39 (Some (decimal 2 a.code)) (code_taken laws t a s.ready))
-    (at 54 (balance m a) (balance_taken laws t m a s.ready s.shown))
+    (at 38 (approval m a) (approval_taken laws decimals t m a s.ready))
+    (at 39 (Some (decimal 2 a.code)) (code_taken laws decimals t a s.ready))
+    (at 54 (balance m a) (balance_taken laws decimals t m a s.ready s.shown))
     (value_taken laws t.rows m.elements s.read.parts s.read.elements n)
 
 -- ---- the response
@@ -141,9 +141,9 @@ pub refused-at : (rows : List (Option FieldSpec)) (value : ℕ → Option (List 
 refused-at rows value [] each = refl
 refused-at rows value (n ∷ ns) each = refused-where rows n (value n) (elements_with_value value ns) (each n) (refused-at rows value ns each)
 
-pub responses_fit_lem : PartLaws → ResponsesFit
-responses_fit_lem laws t m a s answered =
+pub responses_fit_lem : PartLaws → DecimalLaws → ResponsesFit
+responses_fit_lem laws decimals t m a s answered =
     let value = element m a in
     let numbers : List ℕ = 2 ∷ 3 ∷ 4 ∷ 7 ∷ 11 ∷ 12 ∷ 13 ∷ 32 ∷ 33 ∷ 37 ∷ 38 ∷ 39 ∷ 41 ∷ 42 ∷ 49 ∷ 54 ∷ 70 ∷ 90 ∷ [] in
     let same : (response_mti m.mti / 1000 == t.version) ≡ true = eq-eqb (response_mti m.mti / 1000) t.version (version_kept m.mti answered ∙ s.read.version) in
-    ap (message_refusal t) (response-listed m a) ∙ rw same (refused-at t.rows value numbers (element_taken laws t m a s))
+    ap (message_refusal t) (response-listed m a) ∙ rw same (refused-at t.rows value numbers (element_taken laws decimals t m a s))

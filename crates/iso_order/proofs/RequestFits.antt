@@ -16,10 +16,10 @@ use Rattle.iso_table.specs.declared.edition87.EditionLine.{EditionLine}
 use Rattle.iso_table.specs.Edition87.{IsEdition87, line, fixed, llvar, none, spec_of, row87}
 use Rattle.iso_table.specs.Layout.{Layout}
 use Rattle.iso_wire.specs.Decimal.{decimal}
+use Rattle.iso_wire.specs.DecimalLaws.{DecimalLaws}
 use Rattle.iso_wire.specs.OneSpelling.{WellFormed}
 use Rattle.iso_wire.specs.Refusal.{refused_field, refused_by, message_refusal}
 use Rattle.iso_wire.specs.Spelling.{AreBytes}
-use Rattle.iso_wire.proofs.Decimals.{are_digits-most, list_all-decimal, length-decimal}
 use Rattle.iso_order.specs.declared.act.Act.{Act}
 use Rattle.iso_order.specs.declared.act.Act.TheVariants.{Debit, Credit, Inquiry, Undo, Complete}
 use Rattle.iso_order.specs.declared.act.Money.{Money}
@@ -108,22 +108,18 @@ account-facts m h =
 few_digits : (p : AccountNumber) → is_pan p ≡ true → p.len ≤ 19
 few_digits p h = grind (arith, nat_tests)
 
-acquirer-all : (v : ℕ) → list_all is_digit (acquirer_code v) ≡ true
-acquirer-all v = (and_parts (nat_le 1 (length (acquirer_code v)) && nat_le (length (acquirer_code v)) 11) (list_all is_digit (acquirer_code v)) (are_digits-acquirer v)).1
+acquirer-all : DecimalLaws → (v : ℕ) → list_all is_digit (acquirer_code v) ≡ true
+acquirer-all decimals v = (and_parts (nat_le 1 (length (acquirer_code v)) && nat_le (length (acquirer_code v)) 11) (list_all is_digit (acquirer_code v)) (are_digits-acquirer decimals v)).1
 
--- the replacement amounts are letters and digits
-fee-codes : list_all is_letter_or_digit (no_fee ++ no_fee) ≡ true
-fee-codes = refl
-
-replacement-codes : (left : ℕ) → list_all is_letter_or_digit (replacement_amounts left) ≡ true
-replacement-codes left =
+replacement-codes : DecimalLaws → (left : ℕ) → list_all is_letter_or_digit (replacement_amounts left) ≡ true
+replacement-codes decimals left =
     let none : List ℕ = decimal 12 0 ++ (no_fee ++ no_fee) in
     list_all-append is_letter_or_digit (decimal 12 left) none
-    ∙ and_from (list_all is_letter_or_digit (decimal 12 left)) (list_all is_letter_or_digit none) (list_all-more is_digit is_letter_or_digit digit_code (decimal 12 left) (list_all-decimal 12 left)) refl
+    ∙ and_from (list_all is_letter_or_digit (decimal 12 left)) (list_all is_letter_or_digit none) (list_all-more is_digit is_letter_or_digit digit_code (decimal 12 left) (decimals.digits 12 left)) refl
 
 -- ---- values under the built-in tables
 
-module _ (laws : PartLaws) (d : Digits) (t : Layout) (edition : IsEdition87 d t) where
+module _ (laws : PartLaws) (decimals : DecimalLaws) (d : Digits) (t : Layout) (edition : IsEdition87 d t) where
   -- a value is taken where it fits the row of its line
   taken-by : (n : ℕ) (l : EditionLine) (v : List ℕ) → row87 d n ≡ Some (spec_of d n l) → Fits (spec_of d n l) v → IsTaken t.rows n v
   taken-by n l v row fits =
@@ -148,34 +144,34 @@ module _ (laws : PartLaws) (d : Digits) (t : Layout) (edition : IsEdition87 d t)
       (record { length = eq-eqb (length v) size long; class = codes_in classes.AN v refl all; pad = refl })
 
   number-taken : (n size v : ℕ) → row87 d n ≡ Some (spec_of d n (line n n classes.N (fixed size) none)) → IsTaken t.rows n (decimal size v)
-  number-taken n size v row = fixed-taken n size (decimal size v) row (length-decimal size v) (list_all-decimal size v)
+  number-taken n size v row = fixed-taken n size (decimal size v) row (decimals.size size v) (decimals.digits size v)
 
   each-taken : (key : TxKey) (act : Act) → IfSome (money_of act) (λ m. is_account m ≡ true) → Each key act (IsTaken t.rows)
   each-taken key act good =
       record {
         account = some-money account_number (money_of act) (IsTaken t.rows 2) good
-            (λ m account. counted-taken 2 19 (account_number m) refl (omega (arith, length-decimal m.pan.len m.pan.digits, few_digits m.pan (account-facts m account).0)) (list_all-decimal m.pan.len m.pan.digits));
+            (λ m account. counted-taken 2 19 (account_number m) refl (omega (arith, decimals.size m.pan.len m.pan.digits, few_digits m.pan (account-facts m account).0)) (decimals.digits m.pan.len m.pan.digits));
         code = some-map (decimal 6) (processing_code act) (IsTaken t.rows 3) (λ v. number-taken 3 6 v refl);
         amount = some-map (decimal 12) (moved_amount act) (IsTaken t.rows 4) (λ v. number-taken 4 12 v refl);
         sent = number-taken 7 10 key.sent refl;
         stan = number-taken 11 6 key.stan refl;
-        acquirer = counted-taken 32 11 (acquirer_code key.acquirer) refl (are_digits-most 1 11 (acquirer_code key.acquirer) (are_digits-acquirer key.acquirer)) (acquirer-all key.acquirer);
+        acquirer = counted-taken 32 11 (acquirer_code key.acquirer) refl (decimals.most 1 11 (acquirer_code key.acquirer) (are_digits-acquirer decimals key.acquirer)) (acquirer-all decimals key.acquirer);
         currency = some-money (λ (m : Money). m.currency) (money_of act) (IsTaken t.rows 49) good (λ m account. let facts = account-facts m account in code-taken 49 3 m.currency refl facts.1 facts.2);
-        original = some-map original_data (named_by act) (IsTaken t.rows 90) (λ k. fixed-taken 90 42 (original_data k) refl refl (original-digits k));
-        replacement = some-map replacement_amounts (partial_left act) (IsTaken t.rows 95) (λ left. code-taken 95 42 (replacement_amounts left) refl refl (replacement-codes left));
+        original = some-map original_data (named_by act) (IsTaken t.rows 90) (λ k. fixed-taken 90 42 (original_data k) refl refl (original-digits decimals k));
+        replacement = some-map replacement_amounts (partial_left act) (IsTaken t.rows 95) (λ left. code-taken 95 42 (replacement_amounts left) refl refl (replacement-codes decimals left));
       }
 
 numbers : List ℕ
 numbers = 2 ∷ 3 ∷ 4 ∷ 7 ∷ 11 ∷ 32 ∷ 49 ∷ 90 ∷ 95 ∷ []
 
-pub requests_fit_lem : PartLaws → RequestsFit
+pub requests_fit_lem : PartLaws → DecimalLaws → RequestsFit
 unfolding numbers
-requests_fit_lem laws o h d t edition =
+requests_fit_lem laws decimals o h d t edition =
     let parts = valid-parts o h in
     let value = request_value o.key o.act in
     let facts = key_facts o.key parts.0 in
     let version : (o.key.base / 1000 == t.version) ≡ true = eq-eqb (o.key.base / 1000) t.version (facts.version ∙ sym edition.version) in
-    let each = each-requested o.key o.act (IsTaken t.rows) (each-taken laws d t edition o.key o.act (money-account o.key o.act parts.1)) in
+    let each = each-requested o.key o.act (IsTaken t.rows) (each-taken laws decimals d t edition o.key o.act (money-account o.key o.act parts.1)) in
     ap (message_refusal t) (request-listed o) ∙ rw version (refused-at t.rows value numbers each)
 
 -- ---- bytes
@@ -190,23 +186,23 @@ bytes-codes (b ∷ v) all = let both = and_parts (is_letter_or_digit b) (list_al
 bytes-digits : (v : List ℕ) → list_all is_digit v ≡ true → AreBytes v
 bytes-digits v all = bytes-codes v (list_all-more is_digit is_letter_or_digit digit_code v all)
 
-each-bytes : (key : TxKey) (act : Act) → IfSome (money_of act) (λ m. is_account m ≡ true) → Each key act (λ n v. AreBytes v)
-each-bytes key act good =
+each-bytes : DecimalLaws → (key : TxKey) (act : Act) → IfSome (money_of act) (λ m. is_account m ≡ true) → Each key act (λ n v. AreBytes v)
+each-bytes decimals key act good =
     record {
       account = some-map account_number (money_of act) AreBytes (λ m. bytes-decimal m.pan.len m.pan.digits);
       code = some-map (decimal 6) (processing_code act) AreBytes (λ v. bytes-decimal 6 v);
       amount = some-map (decimal 12) (moved_amount act) AreBytes (λ v. bytes-decimal 12 v);
       sent = bytes-decimal 10 key.sent;
       stan = bytes-decimal 6 key.stan;
-      acquirer = bytes-digits (acquirer_code key.acquirer) (acquirer-all key.acquirer);
+      acquirer = bytes-digits (acquirer_code key.acquirer) (acquirer-all decimals key.acquirer);
       currency = some-money (λ (m : Money). m.currency) (money_of act) AreBytes good (λ m account. bytes-codes m.currency (account-facts m account).2);
-      original = some-map original_data (named_by act) AreBytes (λ k. bytes-digits (original_data k) (original-digits k));
-      replacement = some-map replacement_amounts (partial_left act) AreBytes (λ left. bytes-codes (replacement_amounts left) (replacement-codes left));
+      original = some-map original_data (named_by act) AreBytes (λ k. bytes-digits (original_data k) (original-digits decimals k));
+      replacement = some-map replacement_amounts (partial_left act) AreBytes (λ left. bytes-codes (replacement_amounts left) (replacement-codes decimals left));
     }
 
-pub requests_well_formed_lem : RequestsAreWellFormed
+pub requests_well_formed_lem : DecimalLaws → RequestsAreWellFormed
 unfolding numbers
-requests_well_formed_lem o h =
+requests_well_formed_lem decimals o h =
     let parts = valid-parts o h in
     let value = request_value o.key o.act in
     let facts = key_facts o.key parts.0 in
@@ -214,5 +210,5 @@ requests_well_formed_lem o h =
     (record {
       mti = omega (arith, facts.small);
       ascending = ascending-at is_element value (λ n is. is) 2 numbers refl;
-      bytes = bytes-at value numbers (each-requested o.key o.act (λ n v. AreBytes v) (each-bytes o.key o.act (money-account o.key o.act parts.1)));
+      bytes = bytes-at value numbers (each-requested o.key o.act (λ n v. AreBytes v) (each-bytes decimals o.key o.act (money-account o.key o.act parts.1)));
     })

@@ -21,6 +21,7 @@ use Rattle.iso_table.specs.declared.host_ready.Shape.TheVariants as shapes
 use Rattle.iso_table.specs.HostReady.{is_n, is_an, is_n_or_an, is_fixed, is_ll_or_lll, is_unpadded, is_shape, host_rows, IsHostRow, AreHostRows}
 use Rattle.iso_table.specs.Layout.{row_at}
 use Rattle.iso_wire.specs.Contents.{Contents}
+use Rattle.iso_wire.specs.DecimalLaws.{DecimalLaws}
 use Rattle.iso_wire.specs.Refusal.{refused_field, refused_by}
 use Rattle.iso_wire.specs.Spelling.{plain_by, plain_of}
 use Rattle.iso_order.specs.Fields.{text}
@@ -114,10 +115,10 @@ elements_short laws rows value (h ∷ hs) narrow good taken amount =
     omega arith
 
 -- what is shown has twenty characters
-amount_twenty : (m : Contents) (a : Outcome) → is_showable m a.shown ≡ true → (n : ℕ) → (n == 54) ≡ true → IfSome (element m a n) (λ v. length v ≡ 20)
-amount_twenty m a shown n is =
+amount_twenty : DecimalLaws → (m : Contents) (a : Outcome) → is_showable m a.shown ≡ true → (n : ℕ) → (n == 54) ≡ true → IfSome (element m a n) (λ v. length v ≡ 20)
+amount_twenty decimals m a shown n is =
     subst (λ (k : ℕ). IfSome (element m a k) (λ v. length v ≡ 20)) (sym (eqb-true n 54 is))
-    (balance_by m a.shown (λ v. length v ≡ 20) shown (λ z some. length-additional (text m 49) z (shown-currency m (Some z) z refl some)))
+    (balance_by m a.shown (λ v. length v ≡ 20) shown (λ z some. length-additional decimals (text m 49) z (shown-currency m (Some z) z refl some)))
 
 -- ---- the type
 
@@ -127,8 +128,8 @@ type_short digits.Bcd n = omega arith
 
 -- ---- the whole response
 
-pub responses_short_lem : PartLaws → MapLaws → ResponsesAreShort
-responses_short_lem laws map_laws t m a out s plain =
+pub responses_short_lem : PartLaws → MapLaws → DecimalLaws → ResponsesAreShort
+responses_short_lem laws map_laws decimals t m a out s plain =
     let value = element m a in
     let listed : (response m a).elements ≡ elements_with_value value (map (λ (h : HostRow). h.number) host_rows) = ap (λ (made : Contents). made.elements) (response-listed m a) in
     let maps = plain.spelling.maps in
@@ -137,7 +138,7 @@ responses_short_lem laws map_laws t m a out s plain =
     let kind = type_short t.mti (response m a).mti in
     let bitmaps = map_laws.short t.bitmap _ maps plain.bitmaps in
     let written : length parts ≡ length (flat_map (plain_of t.rows) (elements_with_value value (map (λ (h : HostRow). h.number) host_rows))) = ap length (plain.parts ∙ ap (flat_map (plain_of t.rows)) listed) in
-    let elements = elements_short laws t.rows value host_rows refl s.ready.rows (element_taken laws t m a s) (amount_twenty m a s.shown) in
+    let elements = elements_short laws t.rows value host_rows refl s.ready.rows (element_taken laws decimals t m a s) (amount_twenty decimals m a s.shown) in
     let front = length-append (four_digits_of t.mti (response m a).mti) (maps ++ parts) in
     let behind = length-append maps parts in
     omega arith

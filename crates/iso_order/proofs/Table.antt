@@ -26,9 +26,6 @@ module _ (m : Contents) (lines : List (Bool × Verdict)) (last : Verdict) where
   pub without_key : (class m == 1 || class m == 2 || class m == 4) ≡ true → has_key m ≡ false → first_of (key_lines m ++ lines) last ≡ Reply 30
   without_key h k = rw (h, k) refl
 
-  pub not_served : (class m == 1 || class m == 2 || class m == 4) ≡ false → first_of (key_lines m ++ lines) last ≡ Reply 12
-  not_served h = rw h refl
-
   pub past_answered : (version m == 0 && is_answered (function m)) ≡ true → nat_lt 5 (origin m) ≡ false → first_of (answered_lines m ++ lines) last ≡ first_of lines last
   past_answered h k = rw (h, k) refl
 

@@ -5,7 +5,7 @@ use Rattle.std.proofs.lemmas.Bool.{and_parts, and_from, eqb-true, leb-true}
 use Rattle.std.proofs.lemmas.Bool.Decides.{nat_tests}
 use Rattle.iso_wire.specs.Contents.{Contents}
 use Rattle.iso_wire.specs.Decimal.{decimal, are_digits, number}
-use Rattle.iso_wire.proofs.Decimals.{number-decimal, are_digits-decimal}
+use Rattle.iso_wire.specs.DecimalLaws.{DecimalLaws}
 use Rattle.iso_order.specs.declared.key.TxKey.{TxKey}
 use Rattle.iso_order.specs.declared.verdict.Verdict.{Verdict}
 use Rattle.iso_order.specs.declared.verdict.Verdict.TheVariants.{Order, Reply, Silent}
@@ -138,18 +138,18 @@ module _ (m : Contents) (a : Outcome) (h : is_order (verdict m) ≡ true) (few :
   key-there : has_key r ≡ true
   key-there = rw (sent-text, stan-text, acquirer-text) facts.keyed
 
-  tells : told_of r ≡ Some (record { key = key_of m; code = a.code })
-  tells =
-      let digits : are_digits 2 2 (text r 39) ≡ true = ap (are_digits 2 2) code-text ∙ are_digits-decimal 2 a.code in
-      let code-is : number (text r 39) ≡ a.code = ap number code-text ∙ number-decimal 2 a.code (omega (arith, few)) in
+  tells : DecimalLaws → told_of r ≡ Some (record { key = key_of m; code = a.code })
+  tells decimals =
+      let digits : are_digits 2 2 (text r 39) ≡ true = ap (are_digits 2 2) code-text ∙ decimals.text 2 a.code in
+      let code-is : number (text r 39) ≡ a.code = ap number code-text ∙ decimals.number 2 a.code (omega (arith, few)) in
       let key-is : answered_key r ≡ key_of m = rw (sent-text, stan-text, acquirer-text) (ap (λ (b : ℕ). record (key_of m) { base = b }) type-is.1) in
       rw (type-is.0, key-there, digits, code-is, key-is) refl
 
-pub responses_tell_lem : ResponsesTell
-responses_tell_lem m a o is few =
+pub responses_tell_lem : DecimalLaws → ResponsesTell
+responses_tell_lem decimals m a o is few =
     let ordering : is_order (verdict m) ≡ true = ap is_order is in
     let key : o.key ≡ key_of m = subst (IsUnder (key_of m)) is (verdict-key m) in
-    tells m a ordering few ∙ ap (λ (k : TxKey). Some (record { key = k; code = a.code })) (sym key)
+    tells m a ordering few decimals ∙ ap (λ (k : TxKey). Some (record { key = k; code = a.code })) (sym key)
 
 -- ---- the key that is told
 

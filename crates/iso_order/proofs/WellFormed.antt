@@ -9,7 +9,6 @@ use Rattle.iso_wire.specs.Decimal.{decimal}
 use Rattle.iso_wire.specs.Elements.{value_in, IsAscending}
 use Rattle.iso_wire.specs.OneSpelling.{AreOfBytes, WellFormed}
 use Rattle.iso_wire.specs.Spelling.{AreBytes}
-use Rattle.iso_wire.proofs.Orders.{IsAscending-from}
 use Rattle.iso_order.specs.Fields.{text}
 use Rattle.iso_parts.specs.Mti.{is_answered}
 use Rattle.iso_order.specs.Fitting.{ResponsesAreWellFormed}
@@ -85,9 +84,13 @@ bytes-at value (n ∷ ns) each = bytes-where n (value n) (elements_with_value va
 in-range : (n : ℕ) → is_element n ≡ true → (n ≤ 128) × (n ≢ 65)
 in-range n number = (grind (arith, nat_tests), (λ is. grind (arith, nat_tests)))
 
+ascending-from : (low high : ℕ) (es : Values) → low ≤ high → IsAscending high es → IsAscending low es
+ascending-from low high [] le rest = tt
+ascending-from low high (e ∷ es) le rest = (omega (arith, rest.0), rest.1, rest.2, rest.3)
+
 ascending-where : (low n : ℕ) (v : Option (List ℕ)) (es : Values) → low ≤ n → is_element n ≡ true → IsAscending (n + 1) es → IsAscending low (element_where n v ++ es)
 ascending-where low n (Some v) es le number rest = let range = in-range n number in (le, range.0, range.1, rest)
-ascending-where low n None es le number rest = IsAscending-from low (n + 1) es (omega arith) rest
+ascending-where low n None es le number rest = ascending-from low (n + 1) es (omega arith) rest
 
 pub ascending-at : (test : ℕ → Bool) (value : ℕ → Option (List ℕ)) → ((n : ℕ) → test n ≡ true → is_element n ≡ true) → (low : ℕ) (ns : List ℕ) → are_ascending test low ns ≡ true → IsAscending low (elements_with_value value ns)
 ascending-at test value number low [] h = tt

@@ -1,5 +1,5 @@
 -- The message that asks for an order, and what it keeps.
-use Rattle.std.specs.Prelude.{◌≡◌, ℕ, ◌==◌, if◌then◌else◌, List, [], ◌∷◌, ◌++◌, Option, Some, None, option_map, IsTrue}
+use Rattle.std.specs.Prelude.{◌≡◌, ℕ, ◌-◌, ◌^◌, ◌<◌, ◌≤◌, ◌⊎◌, ◌==◌, if◌then◌else◌, List, [], ◌∷◌, ◌++◌, Option, Some, None, option_map, IsTrue, codes}
 use Rattle.iso_parts.specs.declared.digits.Digits.{Digits}
 use Rattle.iso_table.specs.Edition87.{IsEdition87}
 use Rattle.iso_table.specs.Layout.{Layout}
@@ -73,7 +73,7 @@ original_data k = decimal 4 k.base ++ decimal 6 k.stan ++ decimal 10 k.sent ++ d
 
 -- no fee: a debit of eight zeros
 abbrev pub no_fee : List ℕ
-no_fee = 68 ∷ decimal 8 0
+no_fee = codes "D" ++ decimal 8 0
 
 -- the actual amount, no settlement amount and no fees (element 95, replacement amounts)
 abbrev pub replacement_amounts : ℕ → List ℕ
@@ -120,3 +120,9 @@ RequestsFit = (o : Instruction) → IsTrue (is_valid o) → FitsEdition87 (reque
 -- each request is well formed
 abbrev pub RequestsAreWellFormed : Type 0
 RequestsAreWellFormed = (o : Instruction) → IsTrue (is_valid o) → WellFormed (request o)
+
+-- an acquirer's number in the digits that it needs is its code, and these are at most eleven
+abbrev pub AcquirersInOwnDigits : Type 0
+AcquirersInOwnDigits = (digits acquirer : ℕ) → 1 ≤ digits → acquirer ≤ 99999999999
+    → acquirer < 10 ^ digits → (digits ≡ 1) ⊎ (10 ^ (digits - 1) ≤ acquirer)
+    → (digits ≤ 11) × (acquirer_code acquirer ≡ decimal digits acquirer)

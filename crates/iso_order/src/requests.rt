@@ -13,7 +13,7 @@ ghost use Rattle.iso_order.specs.Requests.{original_data, replacement_amounts, r
 use crate::act::Act;
 use crate::fields::mti_of;
 use crate::key::TxKey;
-use crate::laws::{requests_ask, requests_fit};
+use crate::laws::{acquirers_in_own_digits, requests_ask, requests_fit};
 use crate::order::Order;
 use iso_table::NoMemory;
 use iso_wire::{Message, digits_of, write_decimal};
@@ -124,6 +124,8 @@ fn add_acquirer(key: &TxKey, request: &mut Message) -> Result<(), AllocError>
       elements = request.old.elements ++ (32, acquirer_code key.now.acquirer) ∷ [];
     }) }
 {
+    // the law that its own digits are its code, for the prover
+    acquirers_in_own_digits();
     let digits = digits_of(key.acquirer);
     add_number(32, key.acquirer, digits as usize, request)
 }

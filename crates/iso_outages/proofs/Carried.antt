@@ -4,7 +4,6 @@ use Rattle.std.specs.Prelude.{Option, Some, None, is_some, nat_le, slice_get, if
 use Rattle.std.specs.List.{AllByRecursion}
 use Rattle.iso_order.specs.Order.{Instruction, is_valid, same_order}
 use Rattle.iso_order.specs.Outcome.{Outcome, code_alone}
-use Rattle.iso_order.proofs.Lists.{all-weaker, all-join, at-more}
 use Rattle.iso_issuer.specs.declared.account.Account.{Account}
 use Rattle.iso_issuer.specs.declared.journal.Entry.{Entry}
 use Rattle.iso_issuer.specs.Journal.{is_entered, entry_at, HasDistinctKeys}
@@ -12,10 +11,12 @@ use Rattle.iso_issuer.specs.Books.{Books, journal, books_with}
 use Rattle.iso_issuer.specs.Decision.{new_entry, journal_of, answer_for, answer_by}
 use Rattle.iso_issuer.specs.Laws.{AnswersAreKept, EnteredHasEntry, JournalsGrow, NewIsFound, NewComesLast, KeysStayDistinct, KnownChangesNothing}
 use Rattle.iso_durable.specs.Durable.{Durable, entered, books_of, comes, outcome}
+use Rattle.iso_durable.specs.StartLaws.{StartLaws}
 use Rattle.iso_durable.specs.World.{IsStart}
 use Rattle.iso_acquirer.specs.declared.event.Given.{Given}
+use Rattle.iso_outages.proofs.Lists.{all-weaker, all-join, at-more}
 
--- what the laws of the issuer say
+-- what the laws of the issuer and of starts say
 pub record IssuerLaws : Type 0 where
   pub kept : AnswersAreKept
   pub has : EnteredHasEntry
@@ -25,6 +26,7 @@ pub record IssuerLaws : Type 0 where
   pub known : KnownChangesNothing
   pub last : NewComesLast
   pub distinct : KeysStayDistinct
+  pub starts : StartLaws
 
 -- an order that can be delivered: the acquirer sent it, or it is a valid one of others
 abbrev pub CanBring : ℕ → List Instruction → Instruction → Type 0

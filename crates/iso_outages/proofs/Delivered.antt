@@ -6,13 +6,11 @@ use Rattle.std.proofs.lemmas.Bool.Decides.{nat_tests}
 use Rattle.iso_order.specs.declared.key.TxKey.{TxKey}
 use Rattle.iso_order.specs.Order.{Instruction}
 use Rattle.iso_order.specs.Outcome.{Outcome}
-use Rattle.iso_order.proofs.Lists.{all-join, at-more}
 use Rattle.iso_issuer.specs.declared.account.Account.{Account}
 use Rattle.iso_issuer.specs.Journal.{is_entered, HasDistinctKeys}
 use Rattle.iso_issuer.specs.Books.{Books, journal, books_with, IsFullFor}
 use Rattle.iso_issuer.specs.Decision.{answer_for}
 use Rattle.iso_durable.specs.World.{IsStart}
-use Rattle.iso_durable.proofs.Distinct.{distinct_at, start_front}
 use Rattle.iso_acquirer.specs.declared.event.Event.{Event as Passing}
 use Rattle.iso_acquirer.specs.declared.event.Event.TheVariants.{Deliver, Other}
 use Rattle.iso_acquirer.specs.declared.event.Given.{Given}
@@ -21,7 +19,7 @@ use Rattle.iso_acquirer.specs.World.{World as BothEnds, IsRan, IsMade}
 use Rattle.iso_acquirer.specs.Runs.{IsRun}
 use Rattle.iso_acquirer.specs.Runs.{CanHappen as CanPass}
 use Rattle.iso_outages.specs.Laws.{IsAmong}
-use Rattle.iso_outages.proofs.Lists.{at-last}
+use Rattle.iso_outages.proofs.Lists.{all-join, at-more, at-last}
 use Rattle.iso_outages.proofs.Carried.{IssuerLaws, CanBring, IsPromised, Waits}
 
 -- ---- runs
@@ -127,9 +125,9 @@ module _ (laws : IssuerLaws) (p : Party) (sent : List Instruction) (accounts : L
       (record { events = []; after = given; ran = run-none (ends orders given); keeps = λ g among. among })
   deliver-all (o ∷ os) orders given can start =
       let split : orders ++ o ∷ os ≡ (orders ++ o ∷ []) ++ os = sym (append_assoc orders (o ∷ []) os) in
-      let front : IsStart limit orders = start_front limit orders (o ∷ os) start in
+      let front : IsStart limit orders = laws.starts.front limit orders (o ∷ os) start in
       let room : nat_le limit (length orders) ≡ false = grind (arith, nat_tests, start.few, length-append orders (o ∷ os)) in
-      let first = one orders given o can.0 front.once (distinct_at orders os o start.once) room in
+      let first = one orders given o can.0 front.once (laws.starts.new limit orders os o start) room in
       let rest = deliver-all os (orders ++ o ∷ []) first.after can.1 (subst (IsStart limit) split start) in
       subst (λ (l : List Instruction). Delivers orders given l) (sym split)
       (record {

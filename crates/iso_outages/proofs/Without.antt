@@ -8,7 +8,6 @@ use Rattle.iso_order.specs.declared.key.TxKey.{TxKey}
 use Rattle.iso_order.specs.Key.{same_key}
 use Rattle.iso_order.specs.Pan.{AccountNumber}
 use Rattle.iso_order.specs.Order.{Instruction}
-use Rattle.iso_order.proofs.Lists.{all-weaker, all-at, all-join}
 use Rattle.iso_issuer.specs.declared.account.Account.{Account}
 use Rattle.iso_durable.specs.Durable.{entered, comes}
 use Rattle.iso_acquirer.specs.declared.event.Event.{Event as Passing}
@@ -26,7 +25,7 @@ use Rattle.iso_acquirer.specs.Runs.{IsRun}
 use Rattle.iso_acquirer.specs.Runs.{CanHappen as CanPass}
 use Rattle.iso_outages.specs.World.{World, Event, Passes, Syncs, Crashes, sends, begins, asks, receives, hears, receives_other, passes, happens, run, unused}
 use Rattle.iso_outages.specs.Laws.{CanHappen, ends_with, IsAmong}
-use Rattle.iso_outages.proofs.Lists.{all-take, start-kept}
+use Rattle.iso_outages.proofs.Lists.{all-weaker, all-at, all-join, all-take, start-kept}
 use Rattle.iso_outages.proofs.Carried.{IssuerLaws, CanBring, IsCarried, carried-more, carried-comes, carried-answered}
 use Rattle.iso_outages.proofs.Delivered.{run-none, run-first, run-join, deliver-all, give-all}
 
@@ -200,7 +199,7 @@ module _ (laws : IssuerLaws) (w : World) (given : List Given) (h : IsFollowed w 
   crashed : (kept : ℕ) → Follows w given (happens w (Crashes kept))
   crashed kept =
       let front = take kept w.host.pending in
-      let start = start-kept w.host.limit kept w.host.synced w.host.pending h.carried.start in
+      let start = start-kept laws.starts w.host.limit kept w.host.synced w.host.pending h.carried.start in
       let first = deliver-all laws w.acquirer w.sent w.host.accounts w.host.limit front w.host.synced given
       (all-take (CanBring w.acquirer.id w.sent) kept w.host.pending h.carried.bring) start in
       record {

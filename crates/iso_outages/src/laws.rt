@@ -5,6 +5,7 @@ ghost use Rattle.iso_outages.specs.Laws.{CrashesOnlyLose, AgreeOverCrashes, Stay
 ghost use Rattle.iso_outages.specs.Laws.{BalanceOverCrashes, CallsAreRuns};
 
 use iso_acquirer::laws::runs_agree;
+use iso_durable::laws::starts;
 use iso_issuer::laws::{answers_are_kept, entries_are_found, journals_grow, keys_stay_distinct};
 use iso_order::laws::comparisons;
 
@@ -31,5 +32,6 @@ pub fn crashes_only_lose()
     entries_are_found();
     journals_grow();
     keys_stay_distinct();
+    starts();
     comparisons();
 }

@@ -24,7 +24,7 @@ low_bits w i le lt =
     let whole : w ≡ 1 * 2 ^ 63 + (w - top) = omega arith in
     sym (ap (λ (n : ℕ). bit_at n i) whole ∙ bit_at_cat_low 1 63 (w - top) i lt)
 
-pub small_first : (w : ℕ) → w < top → eqb (bit_at w 63) 1 ≡ false
+small_first : (w : ℕ) → w < top → eqb (bit_at w 63) 1 ≡ false
 small_first w lt = let e : w / 2 ^ 63 % 2 ≡ 0 = omega arith in ap (λ (n : ℕ). eqb n 1) e
 
 pub first_small : (w : ℕ) → w < 2 ^ 64 → eqb (bit_at w 63) 1 ≡ false → w < top
@@ -168,14 +168,14 @@ more_or : (t : Bool) (o : Maps) (w v n : ℕ) → cond t more o ≡ got w v n �
 more_or true o w v n e = absurd cc
 more_or false o w v n e = (refl, e)
 
-pub one_first : (w k : ℕ) → w < top → 0 < k → k ≤ 64 → eqb (bit_at w (64 - k)) 1 ≡ primary_bits false (in_words w 0) k
+one_first : (w k : ℕ) → w < top → 0 < k → k ≤ 64 → eqb (bit_at w (64 - k)) 1 ≡ primary_bits false (in_words w 0) k
 one_first w k small low high =
     elim (cases_eq k 1) [
       | inl e ↦ let s = small_first w small in rw e s
       | inr ne ↦ grind (arith, nat_tests)
     ]
 
-pub one_none : (w k : ℕ) → 64 < k → k ≤ 128 → in_words w 0 k ≡ false
+one_none : (w k : ℕ) → 64 < k → k ≤ 128 → in_words w 0 k ≡ false
 one_none w k low high = let z = bit_at-zero (128 - k) in grind (arith, nat_tests)
 
 pub two_first : (w v k : ℕ) → w < 2 ^ 64 → top ≤ w → 0 < k → k ≤ 64 → eqb (bit_at w (64 - k)) 1 ≡ primary_bits true (in_words (w - top) v) k

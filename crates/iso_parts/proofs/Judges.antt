@@ -151,12 +151,12 @@ hex_refused s n b is bad = ap (λ (c : Coding). text_of c n b >>= value_of s) is
 
 -- ---- a part, by its length and its body
 
-pub count_is : (t : Bool) (r : Result ℕ FieldFault) (n : ℕ) → cond t (Ok None) (some_count r) ≡ Ok (Some n) → (t ≡ false) × (r ≡ Ok n)
+count_is : (t : Bool) (r : Result ℕ FieldFault) (n : ℕ) → cond t (Ok None) (some_count r) ≡ Ok (Some n) → (t ≡ false) × (r ≡ Ok n)
 count_is true r n e = absurd cc
 count_is false (Ok m) n e = let same : m ≡ n = cc in (refl, ap Ok same)
 count_is false (Err f) n e = absurd cc
 
-pub count_fails : (t : Bool) (r : Result ℕ FieldFault) (e : FieldFault) → cond t (Ok None) (some_count r) ≡ Err e → (t ≡ false) × (r ≡ Err e)
+count_fails : (t : Bool) (r : Result ℕ FieldFault) (e : FieldFault) → cond t (Ok None) (some_count r) ≡ Err e → (t ≡ false) × (r ≡ Err e)
 count_fails true r e is = absurd cc
 count_fails false (Ok m) e is = absurd cc
 count_fails false (Err f) e is = let same : f ≡ e = cc in (refl, ap Err same)

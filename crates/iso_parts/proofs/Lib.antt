@@ -17,7 +17,6 @@ pub mod PlainBitmaps
 pub mod SetBitmaps
 pub mod Sizes
 pub mod Judges
-pub mod Ranges
 pub mod Extents
 pub mod PieceLaws
 pub mod PartStops

@@ -100,7 +100,7 @@ is_bad_part s b e good bytes h = bad_by s b (ltb (length b) (prefix_size s.lengt
 
 -- ---- where bytes stop, reading does
 
-pub length_told : (k : Length) (max c : ℕ) (p : List ℕ) → TellsCount k max c p → length p ≡ prefix_size k
+length_told : (k : Length) (max c : ℕ) (p : List ℕ) → TellsCount k max c p → length p ≡ prefix_size k
 length_told lengths.Fixed max c p h = ap length h.0
 length_told (lengths.LL d) max c p h = ap length h.1 ∙ length-prefix (lengths.LL d) c
 length_told (lengths.LLL d) max c p h = ap length h.1 ∙ length-prefix (lengths.LLL d) c

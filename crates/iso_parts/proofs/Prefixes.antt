@@ -24,7 +24,7 @@ pub record AreDigits (k h t o n : ℕ) : Type 0 where
   pub o_high : o ≤ 57
   pub value : 1000 * (k - 48) + 100 * (h - 48) + 10 * (t - 48) + (o - 48) ≡ n
 
-pub is_digit-within : (a : ℕ) → 48 ≤ a → a ≤ 57 → is_digit a ≡ true
+is_digit-within : (a : ℕ) → 48 ≤ a → a ≤ 57 → is_digit a ≡ true
 is_digit-within a low high = grind (arith, nat_tests)
 
 number_again : (k h t o n : ℕ) → AreDigits k h t o n → number_of (k ∷ h ∷ t ∷ o ∷ []) ≡ Ok n
@@ -40,10 +40,10 @@ pub chosen_first : {A : Type 0} (b : Bool) (d : FieldFault) (r : Result A FieldF
 chosen_first true d r e = (refl, e)
 chosen_first false d r e = absurd cc
 
-pub digit_low : (a : ℕ) → is_digit a ≡ true → 48 ≤ a
+digit_low : (a : ℕ) → is_digit a ≡ true → 48 ≤ a
 digit_low a h = grind (arith, nat_tests)
 
-pub digit_high : (a : ℕ) → is_digit a ≡ true → a ≤ 57
+digit_high : (a : ℕ) → is_digit a ≡ true → a ≤ 57
 digit_high a h = grind (arith, nat_tests)
 
 told_length : (b : Bool) (v n : ℕ) → or_bad_length (cond b (Some v) None) ≡ Ok n → (b ≡ true) × (v ≡ n)

@@ -1,11 +1,11 @@
 -- A host and its log, while orders come and are kept.
-use Rattle.std.proofs.Common.{◌≡◌, ◌∙◌, ◌++◌, ℕ, zero, suc, refl, sym, ap, subst, List, [], ◌∷◌, length, take, drop, append_assoc, append-nil}
+use Rattle.std.proofs.Common.{◌≡◌, ◌∙◌, ◌++◌, ℕ, refl, sym, ap, subst, List, [], ◌∷◌, length, take, drop, append_assoc}
 use Rattle.std.proofs.Math.Seq.{drop-append_seam}
 use Rattle.iso_order.specs.Order.{Instruction}
 use Rattle.iso_issuer.specs.Books.{Books}
 use Rattle.iso_issuer.specs.Journal.{firsts}
 use Rattle.iso_issuer.specs.Laws.{books_after, FirstsGoOn}
-use Rattle.iso_durable.specs.Durable.{Durable, MayLeave, books_of, comes, come_all, entered, syncs}
+use Rattle.iso_durable.specs.Durable.{Durable, books_of, comes, come_all, entered}
 use Rattle.iso_durable.specs.World.{IsStart, OrdersEnter}
 use Rattle.iso_peers.specs.declared.durable_host.DurableHost.{DurableHost}
 use Rattle.iso_peers.specs.Host.{durable_of, IsInStep}
@@ -52,47 +52,8 @@ module _ (law : OrdersEnter) (old new : Books) (synced : List Instruction) (kept
 
 -- ---- orders that are kept
 
-pub drop_all : {X : Type 0} (xs : List X) → drop (length xs) xs ≡ []
-drop_all [] = refl
-drop_all (x ∷ xs) = drop_all xs
-
 abbrev nothing : List Instruction
 nothing = []
-
-take_nothing : (n : ℕ) → take n nothing ≡ nothing
-take_nothing zero = refl
-take_nothing (suc n) = refl
-
--- what the log has once it is synced: the journal
-pub all_synced : (orders synced pending now : List Instruction) (kept : ℕ) → pending ≡ [] → orders ≡ synced ++ drop kept orders → now ≡ synced ++ pending ++ drop kept orders → now ≡ orders
-all_synced orders synced pending now kept none same is =
-    is ∙ ap (λ (l : List Instruction). synced ++ l ++ drop kept orders) none ∙ ap (λ (l : List Instruction). l ++ drop kept orders) (append-nil synced) ∙ sym same
-
--- the journal is what is kept, and nothing behind it
-pub kept_same : (orders now : List Instruction) → now ≡ orders → orders ≡ now ++ drop (length orders) orders
-kept_same orders now is = sym (ap (λ (l : List Instruction). now ++ l) (drop_all orders) ∙ append-nil now ∙ is)
-
-pub kept_syncs : (b : Books) (synced now : List Instruction) (kept : ℕ) → b.orders ≡ synced ++ drop kept b.orders → now ≡ b.orders
-    → durable b now (length b.orders) ≡ syncs (durable b synced kept)
-kept_syncs b synced now kept same is =
-    ap (λ (l : List Instruction). record { accounts = b.accounts; limit = b.limit; synced = l; pending = drop (length b.orders) b.orders }) (is ∙ same)
-    ∙ ap (λ (l : List Instruction). record { accounts = b.accounts; limit = b.limit; synced = synced ++ drop kept b.orders; pending = l }) (drop_all b.orders)
-
--- where all orders are kept, a sync changes nothing
-pub kept_already : (b : Books) (synced : List Instruction) (kept : ℕ) → kept ≡ length b.orders → durable b synced kept ≡ syncs (durable b synced kept)
-kept_already b synced kept count =
-    let none : drop kept b.orders ≡ [] = ap (λ (n : ℕ). drop n b.orders) count ∙ drop_all b.orders in
-    ap (λ (l : List Instruction). record { accounts = b.accounts; limit = b.limit; synced = synced; pending = l }) none
-    ∙ ap (λ (l : List Instruction). record { accounts = b.accounts; limit = b.limit; synced = l; pending = [] }) (sym (ap (λ (l : List Instruction). synced ++ l) none ∙ append-nil synced))
-
--- what a crash leaves of the log alone, it may leave of the host
-pub leaves_log : (d : Durable) (pending c : List Instruction) → pending ≡ [] → (n : ℕ) × (c ≡ d.synced ++ take n pending) → MayLeave d c
-leaves_log d pending c none left =
-    (0, left.1 ∙ ap (λ (l : List Instruction). d.synced ++ take left.0 l) none ∙ ap (λ (l : List Instruction). d.synced ++ l) (take_nothing left.0))
-
--- and what it leaves while the orders are kept
-pub leaves_kept : (d : Durable) (pending c : List Instruction) → pending ≡ [] → (n : ℕ) × (c ≡ d.synced ++ take n (pending ++ d.pending)) → MayLeave d c
-leaves_kept d pending c none left = (left.0, left.1 ∙ ap (λ (l : List Instruction). d.synced ++ take left.0 (l ++ d.pending)) none)
 
 -- ---- a host
 

@@ -1,10 +1,16 @@
 -- What a crash leaves while the orders of a journal are added to its log.
-use Rattle.std.proofs.Common.{◌≡◌, ◌∙◌, ◌++◌, ◌+◌, ◌<◌, ℕ, sym, ap, List, [], ◌∷◌, length, take, drop, get_or, append_assoc}
+use Rattle.std.proofs.Common.{◌≡◌, ◌∙◌, ◌++◌, ◌+◌, ◌<◌, ℕ, zero, suc, refl, sym, ap, List, [], ◌∷◌, length, take, drop, get_or, append_assoc}
 use Rattle.std.proofs.Math.Seq.{take-append-add}
 use Rattle.std.proofs.lemmas.List.{drop_more}
 use Rattle.iso_order.specs.Order.{Instruction}
 use Rattle.iso_durable.specs.Front.{LeavesFront}
-use Rattle.iso_durable.proofs.Left.{front_more}
+
+-- a front of a list is one of any list that goes on from it
+front_more : (xs ys : List Instruction) (n : ℕ) → (m : ℕ) × (take m (xs ++ ys) ≡ take n xs)
+front_more [] ys zero = (0, refl)
+front_more [] ys (suc n) = (0, refl)
+front_more (x ∷ xs) ys zero = (0, refl)
+front_more (x ∷ xs) ys (suc n) = let rest = front_more xs ys n in (suc rest.0, ap (λ (l : List Instruction). x ∷ l) rest.1)
 
 -- where some orders wait, of those that are to be added
 pub leaves_part : (leaves : List Instruction → Type 0) (synced now pending rest whole : List Instruction) → now ≡ synced → pending ++ rest ≡ whole

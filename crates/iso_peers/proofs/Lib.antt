@@ -1,4 +1,4 @@
-pub mod InStep
+mod InStep
 mod Leaving
 mod Outlive
-pub mod Pieces
+mod Pieces

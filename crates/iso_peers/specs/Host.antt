@@ -1,6 +1,7 @@
 -- A host over the log of its orders.
 use Rattle.std.specs.Prelude.{◌≡◌, ◌++◌, false, List, [], drop, length}
 use Rattle.iso_order.specs.Order.{Instruction}
+use Rattle.iso_issuer.specs.Laws.{books_after}
 use Rattle.iso_durable.specs.Durable.{Durable}
 use Rattle.iso_peers.specs.declared.durable_host.DurableHost.{DurableHost}
 
@@ -21,6 +22,13 @@ pub record IsInStep {L : Type 0} (is_ready : L → Type 0) (synced pending : L �
   pub none : pending h.log ≡ []
   pub count : h.kept ≡ length (synced h.log)
   pub same : h.host.orders ≡ synced h.log ++ drop h.kept h.host.orders
+
+-- a host in step with its log stays so, whatever orders enter its books, while the log isn't called
+abbrev pub StaysInStep : {L : Type 0} → (L → Type 0) → (L → List Instruction)
+    → (L → List Instruction) → DurableHost L → Type 0
+StaysInStep is_ready synced pending h =
+    (orders : List Instruction) → IsInStep is_ready synced pending h
+    → IsInStep is_ready synced pending (record h { host = books_after h.host orders })
 
 -- every order of the journal is kept, and the log never failed
 pub record IsKept {L : Type 0} (h : DurableHost L) : Type 0 where

@@ -3,7 +3,8 @@
 //! - `DurableHost`: a host and the log of its orders. `take` and `take_all` decide what a peer sends, `keep` keeps the
 //!   orders of all peers with one sync, and `hand_out` gives the bytes that may be written. `turn` is the first two for one
 //!   peer.
-//! - `laws`: what was handed out stands, whatever comes and whenever the host crashes.
+//! - `laws`: what was handed out stands, whatever comes and whenever the host crashes; what a peer sends is taken piece by
+//!   piece; and a host stays in step with its log.
 //! - `Connection`: one peer, and the answers that wait for it. `Turned` and `TurnFault` say what came of its bytes.
 #![tactic(auto)]
 

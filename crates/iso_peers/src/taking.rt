@@ -6,11 +6,10 @@ ghost use Rattle.iso_host.specs.Peers.{Refuses};
 ghost use Rattle.iso_peers.specs.Turn.{TakesOf, TakesAll, at_books};
 
 use crate::connection::Connection;
+use crate::laws::piece_by_piece;
 use crate::turn::Turned;
-use iso_host::laws::one_journal;
 use iso_host::{Host, PeerFault, Taken};
 use iso_issuer::laws::{firsts_go_on, firsts_stay};
-use iso_wire::laws::splits_once;
 
 /// Takes bytes of a peer, up to the end of a frame; the answer waits.
 pub(crate) fn take_piece(
@@ -41,10 +40,9 @@ pub(crate) fn take_pieces(host: &mut Host, connection: &mut Connection<'_>, byte
     ensures header { connection.new.peer.header ≡ connection.old.peer.header }
     ensures enters { (orders : List Instruction) × (host.new ≡ books_after host.old orders) }
 {
-    // the laws that bodies have one journal, and that bytes have one split into frames, for the prover
+    // the laws that orders have one journal, and of pieces that follow others, for the prover
     firsts_go_on();
-    one_journal(host.issuer());
-    splits_once();
+    piece_by_piece(host);
     let mut used = 0;
     'pieces: loop {
         match take_piece(host, connection, &bytes[used..]) {

@@ -1,6 +1,6 @@
 -- The first record of a journal. The columns: 0 the words, 24 the version of the records in 4 digits, 28 that of the rules
 -- in 5, 33 the digest of the accounts in four numbers of 20 digits, 113 blanks, 127 the end of the line.
-use Rattle.std.specs.Prelude.{◌≡◌, ◌<◌, ◌^◌, ◌*◌, ◌==◌, ℕ, true, not, List, [], ◌∷◌, ◌++◌, take, drop, codes, bytes_eq, if◌then◌else◌, Option, Some, None}
+use Rattle.std.specs.Prelude.{◌≡◌, ◌<◌, ◌^◌, ◌*◌, ◌==◌, ℕ, true, not, List, ◌++◌, take, drop, codes, bytes_eq, if◌then◌else◌, Option, Some, None}
 use Rattle.std.specs.Int.{w64, from_be_bytes}
 use Rattle.sha2.specs.Sha256.{sha256}
 use Rattle.iso_wire.specs.Decimal.{decimal}
@@ -18,7 +18,7 @@ magic = codes "ISO 8583 ISSUER JOURNAL "
 unfoldable pub heading_bytes : Head → List ℕ
 heading_bytes h =
     magic ++ (decimal 4 1 ++ (decimal 5 h.rules ++ (decimal 20 h.first ++ (decimal 20 h.second
-    ++ (decimal 20 h.third ++ (decimal 20 h.fourth ++ (blanks 14 ++ 10 ∷ [])))))))
+    ++ (decimal 20 h.third ++ (decimal 20 h.fourth ++ (blanks 14 ++ codes "\n")))))))
 
 -- eight bytes of a digest as a number
 abbrev pub word : List ℕ → ℕ → ℕ

@@ -1,5 +1,5 @@
 -- A key in 31 digits.
-use Rattle.std.specs.Prelude.{◌≡◌, ℕ, ◌+◌, true, List, ◌++◌, take, drop, Option, Some, None, if◌then◌else◌}
+use Rattle.std.specs.Prelude.{◌≡◌, ℕ, true, List, ◌++◌, take, drop, Option, Some, None, if◌then◌else◌}
 use Rattle.iso_wire.specs.Decimal.{decimal, number_in}
 use Rattle.iso_order.specs.declared.key.TxKey.{TxKey}
 use Rattle.iso_order.specs.Key.{is_valid_key}

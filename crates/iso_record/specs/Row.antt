@@ -12,7 +12,7 @@
 -- 107   1  the sign of the balance that is shown, + or -, a blank where none is
 -- 108  19  that balance without its sign, or blanks
 -- 127   1  the end of the line
-use Rattle.std.specs.Prelude.{◌≡◌, ℕ, ◌+◌, ◌-◌, ◌^◌, ◌==◌, ◌&&◌, nat_lt, nat_le, Bool, true, List, [], ◌∷◌, ◌++◌, take, drop, replicate, slice_index, bytes_eq, Option, Some, None, option_map, if◌then◌else◌, ℤ, pos, negsuc, unsigned_abs}
+use Rattle.std.specs.Prelude.{◌≡◌, ℕ, ◌-◌, ◌^◌, ◌==◌, ◌&&◌, nat_lt, nat_le, Bool, true, List, [], ◌∷◌, ◌++◌, take, drop, replicate, slice_index, bytes_eq, Option, Some, None, option_map, if◌then◌else◌, ℤ, pos, negsuc, unsigned_abs, codes}
 use Rattle.iso_wire.specs.Decimal.{decimal}
 use Rattle.iso_log.specs.Slots.{is_whole}
 use Rattle.iso_order.specs.declared.key.TxKey.{TxKey}
@@ -91,7 +91,7 @@ size z = digits_by (option_map unsigned_abs z)
 -- an answer, in the 29 bytes behind it
 unfoldable pub answer_bytes : Outcome → List ℕ
 answer_bytes a =
-    decimal 2 a.code ++ (decimal 6 a.seq ++ (sign a.shown ∷ [] ++ (size a.shown ++ 10 ∷ [])))
+    decimal 2 a.code ++ (decimal 6 a.seq ++ (sign a.shown ∷ [] ++ (size a.shown ++ codes "\n")))
 
 -- an order and its answer, in 128 bytes
 unfoldable pub row_bytes : Row → List ℕ

@@ -1,6 +1,6 @@
 -- The request under a key, by its place.
-use Rattle.std.proofs.Common.{◌≡◌, ◌<◌, ◌+◌, ℕ, zero, suc, Bool, true, false, List, [], ◌∷◌, ◌++◌, length, get_or, set, refl, sym, ap, subst, arith}
-use Rattle.std.specs.Prelude.{Option, Some, None, IfSome, option_map, if◌then◌else◌}
+use Rattle.std.proofs.Common.{◌≡◌, ◌<◌, ◌+◌, ℕ, zero, suc, Bool, true, false, List, [], ◌∷◌, ◌++◌, length, get_or, set, refl, ap, subst, arith}
+use Rattle.std.specs.Prelude.{Option, Some, None, option_map, if◌then◌else◌}
 use Rattle.std.specs.List.{remove}
 use Rattle.iso_order.specs.declared.key.TxKey.{TxKey}
 use Rattle.iso_order.specs.Key.{same_key}
@@ -80,27 +80,7 @@ unplaced key (e ∷ es) told =
 
 -- ---- the place, sought one after the other
 
--- the place behind the first ones, counted from the front
-pub rest-none : (o : Option ℕ) → option_map (λ n. n + 0) o ≡ o
-rest-none None = refl
-rest-none (Some n) = ap (λ m. Some m) (omega arith)
-
-next-by : (t : Bool) (o : Option ℕ) (i : ℕ) → t ≡ false
-    → option_map (λ n. n + i) (if t then Some 0 else option_map (λ n. suc n) o) ≡ option_map (λ n. n + (i + 1)) o
-next-by true o i is = absurd (cc)
-next-by false None i is = refl
-next-by false (Some n) i is = ap (λ m. Some m) (omega arith)
-
--- one that isn't the request
-pub next : (key : TxKey) (e : Entry) (es : List Entry) (i : ℕ) → same_key e.key key ≡ false
-    → option_map (λ n. n + i) (place_of key (e ∷ es)) ≡ option_map (λ n. n + (i + 1)) (place_of key es)
-next key e es i is = next-by (same_key e.key key) (place_of key es) i is
-
 -- the one that is
 pub here : (key : TxKey) (e : Entry) (es : List Entry) (i : ℕ) → same_key e.key key ≡ true
     → option_map (λ n. n + i) (place_of key (e ∷ es)) ≡ Some i
 here key e es i is = rw is (ap (λ m. Some m) (omega arith))
-
-pub there-if : (key : TxKey) (es : List Entry) (o : Option ℕ) → o ≡ place_of key es → IfSome o (λ n. n < length es)
-there-if key es None is = tt
-there-if key es (Some n) is = (placed key es n (sym is)).there

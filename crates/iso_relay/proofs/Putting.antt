@@ -4,11 +4,10 @@ use Rattle.std.specs.Prelude.{Some, None, if◌then◌else◌}
 use Rattle.std.specs.List.{AllByRecursion}
 use Rattle.iso_order.specs.declared.key.TxKey.{TxKey}
 use Rattle.iso_order.specs.Key.{same_key}
-use Rattle.iso_order.proofs.Same.{same_key_is}
 use Rattle.iso_front.specs.declared.gathering.Heard.{Heard}
 use Rattle.iso_relay.specs.declared.entry.Entry.{Entry}
 use Rattle.iso_relay.specs.Entries.{heard_under, NoneUnder, AreApart, put, without}
-use Rattle.iso_relay.proofs.Keys.{other_way}
+use Rattle.iso_relay.proofs.Keys.{same_key_is, other_way}
 
 -- ---- what holds of all
 

@@ -6,7 +6,6 @@ use Rattle.std.proofs.lemmas.Grind.{common_steps}
 use Rattle.std.proofs.lemmas.Bool.{cases_lt, and_parts}
 use Rattle.iso_order.specs.declared.key.TxKey.{TxKey}
 use Rattle.iso_order.specs.Key.{same_key}
-use Rattle.iso_order.proofs.Same.{same_key_is}
 use Rattle.iso_front.specs.declared.gathering.Heard.{Heard}
 use Rattle.iso_front.specs.declared.gathering.Heard.TheVariants.{Unasked, Nothing}
 use Rattle.iso_front.specs.declared.gathering.Joint.{Joint}
@@ -19,7 +18,7 @@ use Rattle.iso_relay.specs.declared.decision.Decision.TheVariants.{PassOn}
 use Rattle.iso_relay.specs.Entries.{most_pending, key_of, entry, first_heard, heard_under, AreApart, put, without, asked, asked_under, decided, left, left_by}
 use Rattle.iso_relay.specs.History.{Event, entries_after, last_said, IsSaidByAll}
 use Rattle.iso_relay.specs.History.Event.{Asks, Says}
-use Rattle.iso_relay.proofs.Keys.{other_way}
+use Rattle.iso_relay.proofs.Keys.{same_key_is, other_way}
 use Rattle.iso_relay.proofs.Putting.{all-put, all-without, all-drop, apart-put, apart-without, apart-drop}
 use Rattle.iso_relay.proofs.Tables.{passed}
 use Rattle.iso_relay.proofs.Saying.{IsTracked, heard_since, was-since, just-asked, still-tracked, other-said, said-tracked, said-heard, said-long, number-is}

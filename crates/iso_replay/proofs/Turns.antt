@@ -1,8 +1,8 @@
 -- An exchange, turn after turn.
-use Rattle.std.proofs.Common.{◌≡◌, ◌∙◌, ◌++◌, ℕ, sym, ap, List, [], append_assoc}
+use Rattle.std.proofs.Common.{◌≡◌, ◌∙◌, ◌++◌, ℕ, sym, ap, List, append_assoc}
 use Rattle.std.specs.Prelude.{Option}
 use Rattle.std.specs.Io.KnownBytes.{Appends, Consumes}
-use Rattle.std.proofs.KnownBytes.{Appends-trans, Consumes-trans, Appends-nil, Consumes-nil}
+use Rattle.std.proofs.KnownBytes.{Appends-trans, Consumes-trans}
 use Rattle.iso_replay.specs.Exchanging.{Standing}
 use Rattle.iso_replay.specs.Moving.{Sends, Hears}
 
@@ -15,12 +15,6 @@ pub record SentSo (frames : List ℕ) (before now : Option (List ℕ)) (s : Stan
 -- what came is what was read
 pub record HeardSo (before now : Option (List ℕ)) (s : Standing) : Type 0 where
   pub read : Consumes before now s.heard.bytes
-
-pub none_sent : (frames : List ℕ) (all : Option (List ℕ)) (s : Standing) → s.unsent ≡ frames → SentSo frames all all s
-none_sent frames all s is = record { front = []; taken = Appends-nil all; joined = sym is }
-
-pub none_heard : (all : Option (List ℕ)) (s : Standing) → s.heard.bytes ≡ [] → HeardSo all all s
-none_heard all s is = record { read = rw is (Consumes-nil all) }
 
 pub sent_more : (frames : List ℕ) (before now later : Option (List ℕ)) (s t : Standing) → SentSo frames before now s → Sends now later s t → SentSo frames before later t
 sent_more frames before now later s t so_far more = record {

@@ -2,7 +2,6 @@
 use Rattle.std.proofs.Common.{sym, ◌≡◌, refl, ap, subst, ℕ, List, []}
 use Rattle.std.specs.Prelude.{Some, slice_get}
 use Rattle.std.specs.List.{AllByRecursion}
-use Rattle.iso_order.proofs.Lists.{all-weaker, all-at}
 use Rattle.iso_issuer.specs.declared.account.Account.{Account}
 use Rattle.iso_acquirer.specs.declared.event.Given.{Given}
 use Rattle.iso_acquirer.specs.Agreement.{BothAgree, StaysClosed, BooksAgree}
@@ -19,6 +18,7 @@ use Rattle.iso_restarts.specs.declared.note.Note.{Note}
 use Rattle.iso_restarts.specs.Diary.{on_disk, in_memory, hears}
 use Rattle.iso_restarts.specs.World.{World, Event, Keeps, ends_with, is_told, happens, run, unused}
 use Rattle.iso_restarts.specs.Laws.{CanHappen, IsSentIn, IsRunWithout, IsRunWithoutAny, both_with, HoldsOfBoth, CallsAreEvents}
+use Rattle.iso_restarts.proofs.Lists.{all-weaker, all-at}
 use Rattle.iso_restarts.proofs.Played.{RunsTo, runs-join}
 use Rattle.iso_restarts.proofs.Without.{calm, Follows, follows, follows-all, followed-unused}
 

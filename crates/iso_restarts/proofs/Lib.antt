@@ -1,8 +1,8 @@
-pub mod Agreed
-pub mod Lists
-pub mod Noted
-pub mod Played
-pub mod Replayed
-pub mod Startable
-pub mod Without
-pub mod Written
+mod Agreed
+mod Lists
+mod Noted
+mod Played
+mod Replayed
+mod Startable
+mod Without
+mod Written

@@ -5,7 +5,6 @@ use Rattle.std.specs.List.{AllByRecursion}
 use Rattle.iso_order.specs.declared.key.TxKey.{TxKey}
 use Rattle.iso_order.specs.Pan.{AccountNumber}
 use Rattle.iso_order.specs.Order.{Instruction}
-use Rattle.iso_order.proofs.Lists.{all-join, at-more}
 use Rattle.iso_acquirer.specs.declared.event.Event.TheVariants.{Begin, Timeout, Answer}
 use Rattle.iso_acquirer.specs.declared.event.Given.{Given}
 use Rattle.iso_acquirer.specs.declared.fault.AcqFault.{AcqFault}
@@ -18,6 +17,7 @@ use Rattle.iso_outages.specs.Laws.{CanHappen as CanGo}
 use Rattle.iso_restarts.specs.declared.note.Note.{Note}
 use Rattle.iso_restarts.specs.declared.note.Note.TheVariants.{Begun, TimedOut, Told}
 use Rattle.iso_restarts.specs.Diary.{slots_asked, orders_asked, slots_noted, orders_noted, slots_after, orders_after}
+use Rattle.iso_restarts.proofs.Lists.{all-join, at-more}
 
 -- ---- notes that can be played
 

@@ -4,7 +4,6 @@ use Rattle.std.specs.Prelude.{Option, Some, None, Result, Ok, Err, slice_get, na
 use Rattle.std.specs.List.{AllByRecursion}
 use Rattle.iso_order.specs.Pan.{AccountNumber}
 use Rattle.iso_order.specs.Order.{Instruction}
-use Rattle.iso_order.proofs.Lists.{all-weaker, all-at, all-join, at-more}
 use Rattle.iso_durable.specs.Durable.{comes}
 use Rattle.iso_issuer.specs.declared.account.Account.{Account}
 use Rattle.iso_acquirer.specs.declared.event.Event.{Event as Passing}
@@ -22,7 +21,7 @@ use Rattle.iso_restarts.specs.declared.note.Note.TheVariants.{Begun, TimedOut, T
 use Rattle.iso_restarts.specs.Diary.{on_disk, in_memory, unsent, writes, begins, times_out_by, orders_after, party_after}
 use Rattle.iso_restarts.specs.World.{World, Event, Goes, Keeps, Restarts, ends_with, with_notes, with_host, for_host, is_told, passes, happens, run, unused}
 use Rattle.iso_restarts.specs.Laws.{CanHappen, IsSentIn}
-use Rattle.iso_restarts.proofs.Lists.{all-in}
+use Rattle.iso_restarts.proofs.Lists.{all-weaker, all-join, all-at, at-more, all-in}
 use Rattle.iso_restarts.proofs.Noted.{slots-join}
 use Rattle.iso_restarts.proofs.Played.{CanPlay, Plays, all_noted, plays-more, plays-join, plays-take, RunsTo, runs-join, play-all, with_slots}
 

@@ -1,8 +1,9 @@
-//! What holds of both ends over each run, whenever either of them crashes in it: a function that does nothing, and whose
-//! contract is the laws.
+//! What holds of both ends over each run, whenever either of them crashes in it, and of the acquirer's notes: functions
+//! that do nothing, and whose contracts are laws.
 
 ghost use Rattle.iso_restarts.specs.Laws.{CrashesOnlyLose, AgreeOverCrashes, StayClosedOverCrashes};
 ghost use Rattle.iso_restarts.specs.Laws.{BalanceOverCrashes, CallsAreEvents, CrashesOfBothOnlyLose, SentAsKept, StartsGoOn};
+ghost use Rattle.iso_restarts.specs.NoteLaws.{NotesFollow, StillLeft};
 
 use iso_acquirer::laws::runs_agree;
 use iso_outages::laws::crashes_only_lose;
@@ -37,3 +38,13 @@ pub fn both_may_crash()
     crashes_only_lose();
     runs_agree();
 }
+
+/// What holds of the notes of any acquirer.
+pub fn notes()
+    // Notes behind others go on from what those left, and each one that an acquirer can have
+    // written can happen to it once those before it happened.
+    ensures follow { NotesFollow }
+    // What a crash may leave of the notes, it may still leave once a payment begins, no answer came
+    // in time, or an answer came.
+    ensures crash { StillLeft }
+{}

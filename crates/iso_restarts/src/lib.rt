@@ -5,7 +5,7 @@
 //!   `timed_out` and `told` write one; `keep` has them synced, and gives the orders that may be sent then.
 //! - `Note`: what an acquirer writes down.
 //! - `NoteLog`: what a log of notes is, and what a crash leaves of it. `MemoryNotes` is one in memory.
-//! - `laws`: both ends agree, whichever of them crashes.
+//! - `laws`: both ends agree, whichever of them crashes; what follows from notes, and what a crash may leave of them.
 #![tactic(auto)]
 
 mod durable;

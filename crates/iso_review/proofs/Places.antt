@@ -2,17 +2,16 @@
 use Rattle.std.proofs.Common.{◌≡◌, ◌<◌, ◌+◌, ◌-◌, ℕ, zero, suc, List, [], ◌∷◌, ◌++◌, length, map, get_or, Option, Some, refl, ap, ◌∙◌, arith}
 use Rattle.std.specs.Prelude.{codes}
 use Rattle.std.specs.List.{All}
-use Rattle.std.proofs.lemmas.List.Elements.{All-append, All-map, All-weaker}
-use Rattle.serde_json.specs.Data.{Data, Items}
+use Rattle.std.proofs.lemmas.List.Elements.{All-append, All-map}
+use Rattle.serde_json.specs.Data.{Items}
 use Rattle.serde_json.specs.Find.{get_item}
 use Rattle.serde_json.specs.View.{view, items_view}
 use Rattle.serde_json.specs.declared.value.Value.{Value}
-use Rattle.iso_table.specs.Document.{StandsFor}
 use Rattle.iso_table.specs.Members.{whole_at}
 use Rattle.iso_review.specs.declared.complaint.Place.{Place}
 use Rattle.iso_review.specs.declared.complaint.Finding.{Finding}
 use Rattle.iso_review.specs.declared.complaint.Complaint.{Complaint}
-use Rattle.iso_review.specs.Complaints.{IsAmong, IsPlaced, complaint_at, nowhere, rows_of}
+use Rattle.iso_review.specs.Complaints.{IsAmong, complaint_at, nowhere}
 
 pub item_at : (v : Value) (vs : List Value) (i : ℕ) → i < length vs → get_item i (items_view vs) ≡ Some (view (get_or vs i v))
 item_at v [] i lt = absurd (omega arith)
@@ -32,9 +31,3 @@ among_row vs v k n f lt is = λ i e.
 
 pub nowhere_among : (rows : Items) (c : Complaint) → c.place ≡ nowhere → IsAmong rows c
 nowhere_among rows c is = λ i h. absurd (cc)
-
-pub nowhere_placed : (text : List ℕ) (c : Complaint) → c.place ≡ nowhere → IsPlaced text c
-nowhere_placed text c is = λ i h. absurd (cc)
-
-pub placed : (text : List ℕ) (d : Data) (xs : List Complaint) → StandsFor text d → All (IsAmong (rows_of d)) xs → All (IsPlaced text) xs
-placed text d xs stands good = All-weaker (IsAmong (rows_of d)) (IsPlaced text) (λ c h. λ i e. (d, stands, h)) xs good

@@ -6,13 +6,14 @@ use Rattle.std.specs.Io.KnownBytes.{Appends, Consumes, Keeps, IsAtEnd}
 use Rattle.iso_table.specs.Layout.{Layout}
 use Rattle.iso_wire.specs.declared.header.Header.{Header}
 use Rattle.iso_wire.specs.declared.header.Header.TheVariants.{Binary2, Ascii4, Bcd2}
+use Rattle.iso_wire.specs.FrameLaws.{FrameLaws}
 use Rattle.iso_wire.specs.Framing.{frames_of, AllFit, NoFrame, BadIsNoFrame, is_bad_header}
-use Rattle.iso_wire.proofs.FrameSplits.{frames_of-append, AllFit-append}
 use Rattle.iso_order.specs.Order.{Instruction}
 use Rattle.iso_issuer.specs.Books.{Books}
 use Rattle.iso_host.specs.Links.{agreed}
 use Rattle.iso_host.specs.Entering.{books_after_bodies, BodiesGoOn, StaysWithout}
-use Rattle.iso_host.specs.Output.{IsAnswer, IsOutputFrom, IsOutput}
+use Rattle.iso_host.specs.Handling.{BodyAlone}
+use Rattle.iso_host.specs.Output.{IsAnswer, IsOutputFrom, IsOutput, NoOutput}
 use Rattle.iso_host.specs.Peers.{Unfinished, Refuses, unfinished}
 use Rattle.iso_host.specs.Serving.{Serves, IsWhole, standing}
 use Rattle.iso_host.specs.declared.peer.PeerFault.{PeerFault}
@@ -21,12 +22,9 @@ use Rattle.iso_peers.specs.Connection.{ConnectionState}
 use Rattle.iso_peers.specs.Turn.{TakesAll, StopsAt, at_books}
 use Rattle.iso_peers.specs.declared.turn.Turned.{Turned}
 use Rattle.iso_host.specs.declared.fault.Report.{Report}
-use Rattle.iso_host.proofs.OutputLemmas.{output_none}
-use Rattle.iso_host.proofs.ServeLemmas.{none_taken}
 use Rattle.iso_service.specs.Serving.{AreKept, EndsAt, Hands, Leaves, Stay, StayBehind, UnlessLog, WithoutMemory, stop_of}
 use Rattle.iso_service.specs.declared.fault.ServiceFault.{ServiceFault}
 use Rattle.iso_service.specs.declared.fault.ServiceFault.TheVariants.{Read, Write, BadHeader, CutFrame, Memory, Log}
-use Rattle.iso_peers.proofs.Pieces.{body_alone}
 
 -- ---- streams
 
@@ -38,6 +36,11 @@ pub kept_none : (a b : Option (List ℕ)) → Keeps a b → Appends a b []
 kept_none None b kept = tt
 kept_none (Some x) None kept = absurd kept
 kept_none (Some x) (Some y) kept = kept ∙ sym (append-nil x)
+
+none_taken : (a b : Option (List ℕ)) → Keeps a b → Consumes a b []
+none_taken None b kept = tt
+none_taken (Some x) None kept = absurd kept
+none_taken (Some x) (Some y) kept = sym kept
 
 -- no frame begins where there is no byte
 pub no_byte : (h : Header) → NoFrame h []
@@ -93,30 +96,30 @@ module _ (t : Layout) (h : Header) (unread held : Option (List ℕ)) (old : Book
     pub partial : NoFrame h c.peer.held
     pub none : c.waiting ≡ []
 
-  served_none : StaysWithout old → Serves (agreed t h) (standing unread held old) (standing unread held old) [] []
-  served_none without = record {
+  served_none : NoOutput → StaysWithout old → Serves (agreed t h) (standing unread held old) (standing unread held old) [] []
+  served_none no_output without = record {
     read = keeps_self unread;
     fit = tt;
     books = sym (without t);
     bytes = [];
-    output = output_none t h old;
+    output = no_output t h old;
     answers = Appends-nil held;
   }
 
-  pub at_first : (c : ConnectionState) → StaysWithout old → c.peer.held ≡ [] → c.waiting ≡ [] → Going unread held old c
-  at_first c without empty none = record {
+  pub at_first : (c : ConnectionState) → NoOutput → StaysWithout old → c.peer.held ≡ [] → c.waiting ≡ [] → Going unread held old c
+  at_first c no_output without empty none = record {
     bodies = [];
-    served = subst (Serves (agreed t h) (standing unread held old) (standing unread held old) []) (sym empty) (served_none without);
+    served = subst (Serves (agreed t h) (standing unread held old) (standing unread held old) []) (sym empty) (served_none no_output without);
     partial = subst (NoFrame h) (sym empty) (no_byte h);
     none = none;
   }
 
   -- nothing is written yet
-  pub kept_first : (may_leave : List Instruction → Type 0) → StaysWithout old → Stay may_leave old → AreKept (agreed t h) held held old may_leave
-  kept_first may_leave without stay = record {
+  pub kept_first : (may_leave : List Instruction → Type 0) → NoOutput → StaysWithout old → Stay may_leave old → AreKept (agreed t h) held held old may_leave
+  kept_first may_leave no_output without stay = record {
     bodies = [];
     answers = [];
-    output = output_none t h old;
+    output = no_output t h old;
     shown = [];
     front = ([], refl);
     appends = Appends-nil held;
@@ -124,8 +127,8 @@ module _ (t : Layout) (h : Header) (unread held : Option (List ℕ)) (old : Book
   }
 
   -- there is no memory for a block
-  pub no_block : StaysWithout old → WithoutMemory (agreed t h) (standing unread held old) (standing unread held old)
-  no_block without = (old, [], [], served_none without, inl refl)
+  pub no_block : NoOutput → StaysWithout old → WithoutMemory (agreed t h) (standing unread held old) (standing unread held old)
+  no_block no_output without = (old, [], [], served_none no_output without, inl refl)
 
   module _ (left written : Option (List ℕ)) (now : Books) (c : ConnectionState) (going : Going left written now c) where
     -- a read that fails takes nothing
@@ -198,7 +201,7 @@ module _ (t : Layout) (h : Header) (unread held : Option (List ℕ)) (old : Book
     pub reads_no_more : IsWhole (agreed t h) (standing unread held old) (standing left written now) (λ bodies rest. Unit {0})
     reads_no_more = (going.bodies, c.peer.held, going.served, going.partial, tt)
 
-    module _ (next : Option (List ℕ)) (block : List ℕ) (c2 : ConnectionState) (now2 : Books) (turned : Turned) (law : BodiesGoOn)
+    module _ (next : Option (List ℕ)) (block : List ℕ) (c2 : ConnectionState) (now2 : Books) (turned : Turned) (joins : FrameLaws) (alone : BodyAlone) (law : BodiesGoOn)
         (table : c.peer.table ≡ t) (header : c.peer.header ≡ h) (table2 : c2.peer.table ≡ t) (header2 : c2.peer.header ≡ h)
         (read : Consumes left next block) (taken : TakesAll (at_books c now) (at_books c2 now2) block turned) where
       abbrev mid : Books
@@ -220,10 +223,10 @@ module _ (t : Layout) (h : Header) (unread held : Option (List ℕ)) (old : Book
           ∙ sym (append_assoc c.peer.held (take turned.used block) behind) ∙ ap (λ (l : List ℕ). l ++ behind) joined
           ∙ append_assoc (frames_of h taken.bodies) c2.peer.held behind)
           ∙ sym (append_assoc (frames_of h going.bodies) (frames_of h taken.bodies) (c2.peer.held ++ behind))
-          ∙ ap (λ (l : List ℕ). l ++ (c2.peer.held ++ behind)) (sym (frames_of-append h going.bodies taken.bodies))
+          ∙ ap (λ (l : List ℕ). l ++ (c2.peer.held ++ behind)) (sym (joins.joined h going.bodies taken.bodies))
 
       all_fit : AllFit h all_bodies
-      all_fit = AllFit-append h going.bodies taken.bodies going.served.fit (subst (λ (k : Header). AllFit k taken.bodies) header taken.fit)
+      all_fit = joins.fit h going.bodies taken.bodies going.served.fit (subst (λ (k : Header). AllFit k taken.bodies) header taken.fit)
 
       all_books : mid ≡ books_after_bodies t old all_bodies
       all_books = ap (λ (b : Books). books_after_bodies t b taken.bodies) going.served.books ∙ law t old going.bodies taken.bodies
@@ -334,7 +337,7 @@ module _ (t : Layout) (h : Header) (unread held : Option (List ℕ)) (old : Book
         where
           by : Refuses (unfinished (agreed t h) []) mid now2 (c2.peer.held ++ behind) peer.Memory → Entered
           by (inl same) = entered_same same
-          by (inr alone) = entered_more alone.0 alone.4.1.0 (alone.4.0 ∙ body_alone t mid alone.0) alone.4.1.1
+          by (inr more) = entered_more more.0 more.4.1.0 (more.4.0 ∙ alone t mid more.0) more.4.1.1
 
       pub kept_after : (shown : Option (List ℕ)) (part more : List ℕ) (may_leave : List Instruction → Type 0) → part ++ more ≡ c2.waiting → Appends written shown part
           → Stay may_leave now2 → AreKept (agreed t h) held shown old may_leave

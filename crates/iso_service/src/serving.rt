@@ -12,10 +12,10 @@ use crate::counting::NO_FRAMES;
 use crate::fault::ServiceFault;
 use crate::taking::take_counted;
 use iso_durable::Log;
-use iso_host::laws::one_journal;
+use iso_host::laws::{one_journal, output_goes_on};
 use iso_host::{Inlet, Link, Outlet, PeerFault, Report};
 use iso_peers::{Connection, DurableHost, Turned};
-use iso_wire::laws::splits_once;
+use iso_wire::laws::{frames, splits_once};
 use std::alloc::Global;
 
 /// How many bytes are read at once. What one read brings is kept with one sync.
@@ -97,8 +97,9 @@ pub fn serve_kept<L: Log, R: Inlet, W: Outlet>(
         (standing (R.remaining reader.old) (W.contents writer.old) host.old.host)
         (standing (R.remaining reader.new) (W.contents writer.new) host.new.host) result }
 {
-    // the laws of a journal that goes on, and that bytes have one split into frames, for the prover
-    one_journal(host.issuer());
+    one_journal(host.issuer()); // for the prover, as the next four: a journal and an output go on, and bytes split once
+    output_goes_on();
+    frames();
     splits_once();
     kept_outlive(host);
     let mut block = new_block(alloc)?;

@@ -7,10 +7,9 @@ ghost use Rattle.iso_service.specs.declared.fault.ServiceFault.TheVariants as se
 use crate::counting::count_taken;
 use crate::fault::ServiceFault;
 use iso_durable::Log;
-use iso_host::laws::one_journal;
 use iso_host::{PeerFault, Report};
+use iso_peers::laws::piece_by_piece;
 use iso_peers::{Connection, DurableHost, TurnFault, Turned};
-use iso_wire::laws::splits_once;
 
 /// So many bytes were taken, and why no more.
 fn turned(used: usize, stopped: Option<PeerFault>) -> Turned
@@ -37,9 +36,8 @@ pub(crate) fn take_counted<L: Log>(
     ensures step { IsInStep L.is_ready L.synced L.pending host.old
         → IsInStep L.is_ready L.synced L.pending host.new }
 {
-    // the laws that bodies have one journal, and that bytes have one split into frames, for the prover
-    one_journal(host.issuer());
-    splits_once();
+    // the laws of pieces that follow others, for the prover
+    piece_by_piece(&host.host);
     let mut used = 0;
     'pieces: loop {
         match host.take(connection, &bytes[used..]) {

@@ -8,8 +8,6 @@ use Rattle.iso_order.specs.declared.act.Act.TheVariants.{Debit, Credit, Inquiry,
 use Rattle.iso_order.specs.declared.key.TxKey.{TxKey}
 use Rattle.iso_order.specs.Order.{Instruction, same_pan}
 use Rattle.iso_order.specs.Pan.{AccountNumber}
-use Rattle.iso_order.proofs.Lists.{every, all-weaker}
-use Rattle.iso_order.proofs.Same.{same_pan_is}
 use Rattle.iso_issuer.specs.declared.account.Account.{Account}
 use Rattle.iso_issuer.specs.declared.balances.Balance.{Balance}
 use Rattle.iso_issuer.specs.declared.effect.Side.TheVariants.{Held}
@@ -22,6 +20,8 @@ use Rattle.iso_issuer.specs.Books.{Books, journal}
 use Rattle.iso_issuer.specs.Decision.{journal_of}
 use Rattle.iso_shards.specs.Shards.{is_sent, is_own, accounts_in, IsShard, unplaced_entry}
 use Rattle.iso_shards.specs.Laws.{AgreeOn}
+use Rattle.iso_shards.proofs.Lists.{every, all-weaker}
+use Rattle.iso_shards.proofs.Keys.{same_pan_is}
 use Rattle.iso_shards.proofs.Kept.{IsKeptWith}
 use Rattle.iso_shards.proofs.Kept.{kept}
 use Rattle.iso_shards.proofs.Seen.{account_there, IsSeen, total_seen, holds_seen, balance_seen}

@@ -9,11 +9,11 @@ use Rattle.iso_order.specs.declared.key.TxKey.{TxKey}
 use Rattle.iso_order.specs.Key.{same_key}
 use Rattle.iso_order.specs.Order.{Instruction}
 use Rattle.iso_order.specs.Pan.{AccountNumber}
-use Rattle.iso_order.proofs.Lists.{every, all-weaker}
-use Rattle.iso_order.proofs.Same.{same_key_is}
 use Rattle.iso_issuer.specs.Effect.{is_key}
 use Rattle.iso_issuer.specs.Journal.{undone_key}
 use Rattle.iso_shards.specs.Shards.{is_own, reverses_own, is_concerning, concerning}
+use Rattle.iso_shards.proofs.Lists.{every, all-weaker}
+use Rattle.iso_shards.proofs.Keys.{same_key_is}
 use Rattle.iso_shards.proofs.Kept.{any_kept}
 use Rattle.iso_shards.proofs.Together.{all_filter}
 use Rattle.iso_shards.proofs.Concerned.{only_own, first_of_two}

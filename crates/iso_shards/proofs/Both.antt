@@ -8,14 +8,14 @@ use Rattle.iso_order.specs.declared.key.TxKey.{TxKey}
 use Rattle.iso_order.specs.Key.{same_key}
 use Rattle.iso_order.specs.Order.{Instruction}
 use Rattle.iso_order.specs.Pan.{AccountNumber}
-use Rattle.iso_order.proofs.Same.{same_key_is}
-use Rattle.iso_order.proofs.Lists.{all-weaker}
 use Rattle.iso_issuer.specs.declared.account.Account.{Account}
 use Rattle.iso_issuer.specs.Books.{Books}
 use Rattle.iso_issuer.specs.Decision.{journal_of}
 use Rattle.iso_issuer.specs.Journal.{is_entered, HasDistinctKeys}
 use Rattle.iso_shards.specs.Shards.{is_own, is_concerning, concerning, accounts_in}
 use Rattle.iso_shards.specs.Laws.{AgreeOn}
+use Rattle.iso_shards.proofs.Lists.{all-weaker}
+use Rattle.iso_shards.proofs.Keys.{same_key_is}
 use Rattle.iso_shards.proofs.Together.{all_from, all_filter}
 use Rattle.iso_shards.proofs.Concerned.{concerned, concerned_agrees}
 use Rattle.iso_shards.proofs.Concerned.{agree_by}

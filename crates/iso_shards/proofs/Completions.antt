@@ -14,8 +14,6 @@ use Rattle.iso_order.specs.declared.key.TxKey.{TxKey}
 use Rattle.iso_order.specs.Key.{class_digit, function_digit, same_key}
 use Rattle.iso_order.specs.Order.{Instruction, same_pan, same_currency}
 use Rattle.iso_order.specs.Pan.{AccountNumber}
-use Rattle.iso_order.proofs.Lists.{every, all-weaker}
-use Rattle.iso_order.proofs.Same.{same_key_sym}
 use Rattle.iso_issuer.specs.declared.account.Account.{Account}
 use Rattle.iso_issuer.specs.declared.balances.Balance.{Balance}
 use Rattle.iso_issuer.specs.declared.effect.Effect.{Effect}
@@ -34,6 +32,8 @@ use Rattle.iso_issuer.specs.Journal.{reversal_of, is_nothing, is_reversed, small
 use Rattle.iso_issuer.specs.Journal.{is_counted_with, is_counted}
 use Rattle.iso_issuer.specs.Journal.{is_completed, is_ended, weight, HasDistinctKeys}
 use Rattle.iso_shards.specs.Laws.{IsAsDebit}
+use Rattle.iso_shards.proofs.Lists.{every, all-weaker}
+use Rattle.iso_shards.proofs.Keys.{same_key_sym}
 use Rattle.iso_shards.proofs.Places.{completes}
 use Rattle.iso_shards.proofs.Steps.{IssuerLaws, all_of_map}
 

@@ -10,7 +10,6 @@ use Rattle.iso_order.specs.declared.key.TxKey.{TxKey}
 use Rattle.iso_order.specs.Key.{same_key}
 use Rattle.iso_order.specs.Order.{Instruction}
 use Rattle.iso_order.specs.Pan.{AccountNumber}
-use Rattle.iso_order.proofs.Same.{same_key_sym}
 use Rattle.iso_issuer.specs.declared.account.Account.{Account}
 use Rattle.iso_issuer.specs.declared.effect.Side.TheVariants.{Held}
 use Rattle.iso_issuer.specs.declared.journal.Entry.{Entry}
@@ -23,6 +22,7 @@ use Rattle.iso_issuer.specs.Journal.{is_entered, undone_key, HasDistinctKeys}
 use Rattle.iso_shards.specs.Shards.{is_sent, is_own, reverses_own, is_concerning, concerning}
 use Rattle.iso_shards.specs.Shards.{accounts_in, unplaced_entry, unplaced_hold}
 use Rattle.iso_shards.specs.Laws.{AgreeOn}
+use Rattle.iso_shards.proofs.Keys.{same_key_sym}
 use Rattle.iso_shards.proofs.Kept.{IsKeptWith}
 use Rattle.iso_shards.proofs.Seen.{journal_seen}
 use Rattle.iso_shards.proofs.Agreed.{agree_seen}
@@ -140,9 +140,6 @@ stand_anywhere own one other accounts orders =
 -- ---- a reversal of what isn't there
 
 module _ (own : AccountNumber → Bool) (key original : TxKey) (left : ℕ) where
-  stray : Instruction
-  stray = record { key = key; act = Undo original left }
-
   -- it reverses none of these
   reverses_none : (os : List Instruction) → is_entered os original ≡ false
       → reverses_own own os (record { key = key; act = Undo original left }) ≡ false

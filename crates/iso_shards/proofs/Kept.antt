@@ -9,8 +9,6 @@ use Rattle.iso_order.specs.declared.act.Act.TheVariants.{Debit, Credit, Inquiry,
 use Rattle.iso_order.specs.declared.key.TxKey.{TxKey}
 use Rattle.iso_order.specs.Order.{Instruction, same_pan}
 use Rattle.iso_order.specs.Pan.{AccountNumber}
-use Rattle.iso_order.proofs.Lists.{every, all-weaker}
-use Rattle.iso_order.proofs.Same.{same_pan_is}
 use Rattle.iso_issuer.specs.declared.effect.Side.{Side}
 use Rattle.iso_issuer.specs.declared.effect.Side.TheVariants.{Held}
 use Rattle.iso_issuer.specs.declared.holds.OpenHold.{OpenHold}
@@ -23,6 +21,8 @@ use Rattle.iso_issuer.specs.Journal.{is_standing, weight}
 use Rattle.iso_issuer.specs.Balance.{share, total}
 use Rattle.iso_issuer.specs.Holds.{is_open, hold_now, open_holds}
 use Rattle.iso_shards.specs.Shards.{is_own}
+use Rattle.iso_shards.proofs.Lists.{every, all-weaker}
+use Rattle.iso_shards.proofs.Keys.{same_pan_is}
 use Rattle.iso_shards.proofs.Places.{completes}
 
 -- ---- lists of which some elements are left out

@@ -1,3 +1,5 @@
+mod Keys
+mod Lists
 mod Places
 mod Kept
 mod Seen

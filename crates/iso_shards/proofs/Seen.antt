@@ -15,8 +15,6 @@ use Rattle.iso_order.specs.Key.{function_digit}
 use Rattle.iso_order.specs.Order.{Instruction, same_pan, same_currency}
 use Rattle.iso_order.specs.Outcome.{Outcome}
 use Rattle.iso_order.specs.Pan.{AccountNumber}
-use Rattle.iso_order.proofs.Lists.{every}
-use Rattle.iso_order.proofs.Same.{same_pan_is}
 use Rattle.iso_issuer.specs.declared.account.Account.{Account}
 use Rattle.iso_issuer.specs.declared.balances.Balance.{Balance}
 use Rattle.iso_issuer.specs.declared.effect.Effect.{Effect}
@@ -32,6 +30,8 @@ use Rattle.iso_issuer.specs.Decision.{is_wide, new_answer, new_entry, entries_af
 use Rattle.iso_issuer.specs.Holds.{open_holds}
 use Rattle.iso_shards.specs.Shards.{is_sent, accounts_in}
 use Rattle.iso_shards.specs.Shards.{unplaced, unplaced_entry, unplaced_hold}
+use Rattle.iso_shards.proofs.Lists.{every}
+use Rattle.iso_shards.proofs.Keys.{same_pan_is}
 use Rattle.iso_shards.proofs.Places.{left_unplaced, total_unplaced, holds_unplaced}
 use Rattle.iso_shards.proofs.Kept.{find_kept, AreUndosKept, IsKeptWith, AllKept}
 use Rattle.iso_shards.proofs.Kept.{kept, left_kept, total_kept, holds_kept}

@@ -10,8 +10,6 @@ use Rattle.iso_order.specs.Key.{same_key}
 use Rattle.iso_order.specs.Order.{Instruction, same_order}
 use Rattle.iso_order.specs.Outcome.{Outcome, code_alone}
 use Rattle.iso_order.specs.Pan.{AccountNumber}
-use Rattle.iso_order.proofs.Same.{same_key_is}
-use Rattle.iso_order.proofs.Lists.{all-weaker}
 use Rattle.iso_issuer.specs.declared.account.Account.{Account}
 use Rattle.iso_issuer.specs.declared.fault.Refused.{Refused}
 use Rattle.iso_issuer.specs.declared.journal.Entry.{Entry}
@@ -24,6 +22,8 @@ use Rattle.iso_shards.specs.Shards.{is_sent, sent_to, IsShard}
 use Rattle.iso_shards.specs.Shards.{KeysGoTogether, unplaced, unplaced_entry, unplaced_result}
 use Rattle.iso_shards.specs.Shards.{results_in}
 use Rattle.iso_shards.specs.Laws.{IsRoomForAll}
+use Rattle.iso_shards.proofs.Lists.{all-weaker}
+use Rattle.iso_shards.proofs.Keys.{same_key_is}
 use Rattle.iso_shards.proofs.Places.{entry_unplaced}
 use Rattle.iso_shards.proofs.Kept.{find_kept, kept}
 use Rattle.iso_shards.proofs.Seen.{answer_same}

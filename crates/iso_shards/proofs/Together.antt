@@ -8,11 +8,11 @@ use Rattle.iso_order.specs.declared.key.TxKey.{TxKey}
 use Rattle.iso_order.specs.Key.{same_key}
 use Rattle.iso_order.specs.Order.{Instruction}
 use Rattle.iso_order.specs.Pan.{AccountNumber}
-use Rattle.iso_order.proofs.Same.{same_key_is}
-use Rattle.iso_order.proofs.Lists.{all-weaker}
 use Rattle.iso_issuer.specs.Journal.{firsts}
 use Rattle.iso_shards.specs.Shards.{is_sent_by, is_sent, sent_to}
 use Rattle.iso_shards.specs.Shards.{KeysGoTogether, KeysNameOneAccount}
+use Rattle.iso_shards.proofs.Lists.{all-weaker}
+use Rattle.iso_shards.proofs.Keys.{same_key_is}
 
 -- ---- what is true at each place is true of all
 

@@ -9,7 +9,6 @@ use Rattle.iso_order.specs.declared.act.Act.TheVariants.{Debit, Credit, Inquiry,
 use Rattle.iso_order.specs.declared.key.TxKey.{TxKey}
 use Rattle.iso_order.specs.Order.{Instruction}
 use Rattle.iso_order.specs.Pan.{AccountNumber}
-use Rattle.iso_order.proofs.Lists.{every, all-at, all-weaker, all-join}
 use Rattle.iso_issuer.specs.declared.account.Account.{Account}
 use Rattle.iso_issuer.specs.declared.journal.Entry.{Entry}
 use Rattle.iso_issuer.specs.Books.{Books, journal}
@@ -20,6 +19,7 @@ use Rattle.std.proofs.lemmas.List.Elements.{filter_agree}
 use Rattle.iso_issuer.specs.Effect.{is_key}
 use Rattle.iso_issuer.specs.Journal.{undone_key}
 use Rattle.iso_shards.specs.Shards.{reverses_own}
+use Rattle.iso_shards.proofs.Lists.{every, all-at, all-weaker, all-join}
 use Rattle.iso_shards.proofs.Concerned.{first_of_two, second_of_two}
 use Rattle.iso_shards.proofs.Kept.{any_kept}
 use Rattle.iso_shards.proofs.Agreed.{unplaced_filter, filter_kept}

@@ -1,15 +1,17 @@
 -- What events of hosts over one log do to one of the hosts.
-use Rattle.std.proofs.Common.{◌≡◌, ◌∙◌, ◌≤◌, ℕ, zero, suc, Bool, true, false, List, [], ◌∷◌, ◌++◌, length, append_assoc, length-append, refl, ap, arith, eq-eqb}
+use Rattle.std.proofs.Common.{◌≡◌, ◌∙◌, ◌≤◌, ℕ, zero, suc, Bool, true, false, List, [], ◌∷◌, ◌++◌, length, append_assoc, length-append, refl, sym, ap, arith, eq-eqb}
 use Rattle.std.specs.Prelude.{◌==◌, nat_le, if◌then◌else◌, Option, Some, None, slice_get, option_map}
+use Rattle.std.specs.List.{list_any}
+use Rattle.std.proofs.lemmas.Bool.{or_parts}
 use Rattle.std.proofs.lemmas.Option.{slice_get-map}
 use Rattle.std.proofs.lemmas.List.{length-map}
+use Rattle.std.proofs.lemmas.List.Folds.{list_any-append}
 use Rattle.iso_order.specs.Order.{Instruction}
 use Rattle.iso_issuer.specs.Books.{journal}
 use Rattle.iso_issuer.specs.Journal.{is_entered}
 use Rattle.iso_issuer.specs.Decision.{answer_for}
 use Rattle.iso_durable.specs.Durable.{books_of, entered}
 use Rattle.iso_durable.specs.World.{Told}
-use Rattle.iso_durable.proofs.Distinct.{any_front}
 use Rattle.iso_hosts.specs.World.{World, Batch, Decisions, Host, seen_by, doubted, host_at, nothing, with_host, known_answer, decides, to_send, left_behind, arrives, same_batch, tells, forgets, finds, reads, after_event, after_events}
 use Rattle.iso_hosts.specs.World.{batch_of as sent_batch, Event, Receives, Sends, Arrives, Reads, Restarts}
 use Rattle.iso_hosts.specs.Laws.{OthersLeaveIt, LogOnlyGrows, OwnIsTold, ReadsOn, FencedSaysNothingNew}
@@ -133,6 +135,9 @@ module _ (laws : HostLaws) where
   knows_on es w kept knows = let more = laws.grow w es in knows_more w (after_events es w) kept more.0 more.1 knows
 
 -- ---- an order that is new comes
+
+any_front : {X : Type 0} (f : X → Bool) (xs ys : List X) → list_any f (xs ++ ys) ≡ false → list_any f xs ≡ false
+any_front f xs ys h = (or_parts (list_any f xs) (list_any f ys) (sym (list_any-append f xs ys) ∙ h)).0
 
 new_seen : (w : World) (n : ℕ) (o : Instruction) → is_entered (entered (host_at w n)) o.key ≡ false → is_entered (seen_by w (w.hosts n)) o.key ≡ false
 new_seen w n o new =

@@ -1,9 +1,8 @@
 -- An issuer that follows the batches of a store.
-use Rattle.std.proofs.Common.{◌≡◌, ◌∙◌, ◌≤◌, ℕ, ◌+◌, List, [], ◌∷◌, ◌++◌, length, take, append-nil, sym, ap, subst, arith}
+use Rattle.std.proofs.Common.{◌≡◌, ◌∙◌, ◌≤◌, ℕ, ◌+◌, List, [], ◌∷◌, ◌++◌, length, take, append-nil, sym, ap, arith}
 use Rattle.std.specs.Prelude.{Some, slice_get}
 use Rattle.std.proofs.lemmas.Option.{slice_get_within}
 use Rattle.iso_order.specs.Order.{Instruction}
-use Rattle.iso_issuer.specs.Books.{Books}
 use Rattle.iso_durable.specs.World.{IsStart}
 use Rattle.iso_hosts.specs.World.{orders_in}
 use Rattle.iso_shared.specs.declared.opening.OpenError.{OpenError}
@@ -12,8 +11,8 @@ use Rattle.iso_shared.specs.declared.standby.Standby.{Standby}
 use Rattle.iso_shared.specs.Store.{Grows}
 use Rattle.iso_shared.specs.Kept.{batch_of, batches_of, orders_kept}
 use Rattle.iso_shared.specs.Fronts.{orders_of_both}
-use Rattle.iso_shared.specs.Standby.{IsFollowing, Waits, IsTakeFault, IsRefusal}
-use Rattle.iso_shared.proofs.Logs.{front_stays, still_within, front_more}
+use Rattle.iso_shared.specs.Standby.{IsFollowing, IsTakeFault, IsRefusal}
+use Rattle.iso_shared.proofs.Logs.{front_stays, front_more}
 
 -- the orders of one batch more
 orders_more : (old new : List (List ℕ)) (n : ℕ) (bytes : List ℕ) → Grows old new → n ≤ length old → slice_get new n ≡ Some bytes
@@ -33,16 +32,6 @@ module _ {S : Type 0} (kept : S → List (List ℕ)) (old new : Standby S) where
         ∙ sym (orders_more (kept old.store) (kept new.store) old.seen bytes grows is.known at)
         ∙ ap (orders_kept (kept new.store)) (sym seen);
     start = start;
-  }
-
-  pub follow_same : IsFollowing kept old → Grows (kept old.store) (kept new.store) → Waits kept old new → IsFollowing kept new
-  follow_same is grows waits = record {
-    known = omega (arith, waits.seen, still_within old.seen (kept old.store) (kept new.store) grows is.known);
-    orders =
-        ap (λ (b : Books). b.orders) waits.issuer ∙ is.orders
-        ∙ sym (ap (λ (l : List (List ℕ)). orders_in (batches_of l)) (front_stays old.seen (kept old.store) (kept new.store) grows is.known))
-        ∙ ap (orders_kept (kept new.store)) (sym waits.seen);
-    start = subst (λ (b : Books). IsStart b.limit b.orders) (sym waits.issuer) is.start;
   }
 
   pub refusal : (bytes : List ℕ) (e : OpenError) → slice_get (kept new.store) old.seen ≡ Some bytes → IsTakeFault old.issuer (old.seen + 1) bytes e → IsRefusal kept old new e

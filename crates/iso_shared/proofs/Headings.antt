@@ -5,20 +5,22 @@ use Rattle.std.proofs.lemmas.Bool.Decides.{nat_tests}
 use Rattle.std.proofs.lemmas.Slice.Eq.{bytes_eq-Decides}
 use Rattle.std.specs.List.{list_all}
 use Rattle.std.proofs.lemmas.List.{take_at, drop_at}
-use Rattle.std.proofs.lemmas.List.Folds.{list_all_at}
+use Rattle.std.proofs.lemmas.List.Folds.{list_all-append, list_all_at}
 use Rattle.std.proofs.lemmas.Bool.{and_from, and_parts}
 use Rattle.hex.specs.Hex.{encode_lower, encode_with, lower_digits, decode_sized, IsBytes}
 use Rattle.hex.proofs.HexLemmas.{length-encode_with, decode_sized-encode_lower}
 use Rattle.iso_wire.specs.Decimal.{decimal, number_in, is_digit}
-use Rattle.iso_wire.proofs.Decimals.{list_all-decimal, length-decimal, number-decimal, are_digits-decimal}
+use Rattle.iso_wire.specs.DecimalLaws.{DecimalLaws}
 use Rattle.iso_log.specs.Slots.{is_nonzero, is_whole}
 use Rattle.iso_shared.specs.declared.heading.Writer.{Writer}
 use Rattle.iso_shared.specs.declared.heading.Heading.{Heading as Head}
 use Rattle.iso_shared.specs.Heading.{magic, heading_bytes, heading_by, heading_in, writer_by, is_writer, is_heading}
 use Rattle.iso_record.specs.Row.{blanks, part}
-use Rattle.iso_record.proofs.Back.{nonzero_both}
 
 -- ---- no byte is zero
+
+nonzero_both : (xs ys : List ℕ) → list_all is_nonzero xs ≡ true → list_all is_nonzero ys ≡ true → list_all is_nonzero (xs ++ ys) ≡ true
+nonzero_both xs ys a b = list_all-append is_nonzero xs ys ∙ and_from _ _ a b
 
 nonzero_of : (xs : List ℕ) → list_all is_digit xs ≡ true → list_all is_nonzero xs ≡ true
 nonzero_of [] h = refl
@@ -84,7 +86,7 @@ length-name w h = let parts = writer_parts w h in omega (arith, parts.0, length-
 
 -- ---- each heading is a record
 
-module _ (h : Head) (is : is_writer h.writer ≡ true) where
+module _ (decimals : DecimalLaws) (h : Head) (is : is_writer h.writer ≡ true) where
   abbrev p : List ℕ
   p = decimal 10 h.place
 
@@ -97,12 +99,12 @@ module _ (h : Head) (is : is_writer h.writer ≡ true) where
   heading_long : length (magic ++ (p ++ (w ++ e))) ≡ 128
   heading_long =
       length-append magic (p ++ (w ++ e))
-      ∙ omega (arith, length-magic, length-append p (w ++ e), length-append w e, length-decimal 10 h.place, length-name h.writer is)
+      ∙ omega (arith, length-magic, length-append p (w ++ e), length-append w e, decimals.size 10 h.place, length-name h.writer is)
 
   heading_nonzero : list_all is_nonzero (magic ++ (p ++ (w ++ e))) ≡ true
   heading_nonzero =
       nonzero_both magic (p ++ (w ++ e)) nonzero_magic
-      (nonzero_both p (w ++ e) (nonzero_of p (list_all-decimal 10 h.place))
+      (nonzero_both p (w ++ e) (nonzero_of p (decimals.digits 10 h.place))
       (nonzero_both w e (nonzero_hex h.writer.bits (writer_parts h.writer is).1) refl))
 
   pub heading_whole : is_whole (heading_bytes h) ≡ true
@@ -110,16 +112,16 @@ module _ (h : Head) (is : is_writer h.writer ≡ true) where
   heading_whole = and_from _ _ (eq-eqb (length (magic ++ (p ++ (w ++ e)))) 128 heading_long) heading_nonzero
 
   place_part : part (magic ++ (p ++ (w ++ e))) 28 10 ≡ p
-  place_part = ap (take 10) (drop_at magic (p ++ (w ++ e)) 28 length-magic) ∙ take_at p (w ++ e) 10 (length-decimal 10 h.place)
+  place_part = ap (take 10) (drop_at magic (p ++ (w ++ e)) 28 length-magic) ∙ take_at p (w ++ e) 10 (decimals.size 10 h.place)
 
   name_part : part (magic ++ (p ++ (w ++ e))) 38 32 ≡ w
   name_part =
       ap (λ (l : List ℕ). take 32 (drop 38 l)) (sym (append_assoc magic p (w ++ e)))
-      ∙ ap (take 32) (drop_at (magic ++ p) (w ++ e) 38 (length-append magic p ∙ omega (arith, length-magic, length-decimal 10 h.place)))
+      ∙ ap (take 32) (drop_at (magic ++ p) (w ++ e) 38 (length-append magic p ∙ omega (arith, length-magic, decimals.size 10 h.place)))
       ∙ take_at w e 32 (length-name h.writer is)
 
   place_back : h.place < 10 ^ 10 → number_in 10 10 (part (magic ++ (p ++ (w ++ e))) 28 10) ≡ Some h.place
-  place_back lt = ap (number_in 10 10) place_part ∙ rw (are_digits-decimal 10 h.place) (ap Some (number-decimal 10 h.place lt))
+  place_back lt = ap (number_in 10 10) place_part ∙ rw (decimals.text 10 h.place) (ap Some (decimals.number 10 h.place lt))
 
   name_back : writer_by (decode_sized (part (magic ++ (p ++ (w ++ e))) 38 32) 16) ≡ Some h.writer
   name_back =
@@ -129,13 +131,13 @@ module _ (h : Head) (is : is_writer h.writer ≡ true) where
 same_bytes : (xs : List ℕ) → bytes_eq xs xs ≡ true
 same_bytes xs = (bytes_eq-Decides xs xs).1 refl
 
-pub heading_back : (h : Head) → is_heading h ≡ true → heading_in (heading_bytes h) ≡ Some h
+pub heading_back : DecimalLaws → (h : Head) → is_heading h ≡ true → heading_in (heading_bytes h) ≡ Some h
 unfolding heading_in heading_bytes
-heading_back h is =
+heading_back decimals h is =
     let both = and_parts (nat_lt h.place (10 ^ 10)) (is_writer h.writer) is in
     let lt : h.place < 10 ^ 10 = grind (arith, nat_tests, both.0) in
-    ap (λ (o : Option ℕ). heading_by (heading_bytes h) o (writer_by (decode_sized (part (heading_bytes h) 38 32) 16))) (place_back h both.1 lt)
-    ∙ ap (λ (o : Option Writer). heading_by (heading_bytes h) (Some h.place) o) (name_back h both.1)
+    ap (λ (o : Option ℕ). heading_by (heading_bytes h) o (writer_by (decode_sized (part (heading_bytes h) 38 32) 16))) (place_back decimals h both.1 lt)
+    ∙ ap (λ (o : Option Writer). heading_by (heading_bytes h) (Some h.place) o) (name_back decimals h both.1)
     ∙ rw (same_bytes (heading_bytes h)) refl
 
 -- ---- nothing else is one

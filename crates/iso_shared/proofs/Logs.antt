@@ -1,9 +1,8 @@
 -- What the calls of a log do to its orders.
 use Rattle.std.proofs.Common.{◌≡◌, ◌∙◌, ◌⊎◌, inl, inr, ◌≤◌, ℕ, zero, suc, ◌+◌, Bool, true, false, List, [], ◌∷◌, ◌++◌, length, take, drop, append_assoc, append-nil, length-append, refl, sym, ap, subst, arith}
 use Rattle.std.specs.Prelude.{Some, slice_get, MatchBool}
-use Rattle.std.proofs.lemmas.List.{take-append-le, drop-append-le, take_more, map-append}
+use Rattle.std.proofs.lemmas.List.{length-take-le, take-append-le, drop-append-le, take_more, map-append}
 use Rattle.std.proofs.lemmas.Option.{slice_get_within, get_or_from_slice_get}
-use Rattle.iso_log.proofs.Behind.{take_long}
 use Rattle.iso_order.specs.Order.{Instruction}
 use Rattle.iso_record.specs.declared.row.Row.{Row}
 use Rattle.iso_durable.specs.Front.{LeavesFront}
@@ -95,7 +94,7 @@ module _ {S P : Type 0} (kept sent : S → List (List ℕ)) (old new : SharedLog
         ap (λ n. orders_in (batches_of (drop n (take new.seen now)))) synced
         ∙ ap (λ (l : List (List ℕ)). orders_in (batches_of (drop old.synced l))) fronts_more
         ∙ ap (λ (l : List (List ℕ)). orders_in (batches_of l))
-        (drop-append-le old.synced (take old.seen was) (made_bytes old ∷ []) (omega (arith, is.behind, take_long old.seen was is.known)))
+        (drop-append-le old.synced (take old.seen was) (made_bytes old ∷ []) (omega (arith, is.behind, length-take-le old.seen was is.known)))
         ∙ orders_of_both (drop old.synced (take old.seen was)) (made_bytes old ∷ [])
         ∙ ap (λ (l : List Instruction). since kept old ++ l) (one_batch back (made old) sends.filed)
 

@@ -1,5 +1,5 @@
 -- A batch that is sent again and again.
-use Rattle.std.proofs.Common.{◌≡◌, ◌∙◌, ℕ, zero, suc, List, [], ◌∷◌, ◌++◌, append_assoc, append-nil, refl, sym, ap}
+use Rattle.std.proofs.Common.{◌≡◌, ◌∙◌, ℕ, zero, suc, List, [], ◌∷◌, ◌++◌, append_assoc, refl, ap}
 use Rattle.std.specs.Prelude.{replicate}
 use Rattle.iso_shared.specs.Store.{Grows, SentOnly}
 
@@ -14,9 +14,6 @@ sent_again old now new b only e = (
   e ∙ ap (λ (l : List (List ℕ)). l ++ b ∷ []) only.1 ∙ append_assoc old (replicate only.0 b) (b ∷ [])
       ∙ ap (λ (l : List (List ℕ)). old ++ l) (replicate_last only.0 b),
 )
-
-pub sent_none : (old now : List (List ℕ)) (b : List ℕ) → now ≡ old → SentOnly old now b
-sent_none old now b e = (0, e ∙ sym (append-nil old))
 
 pub grows_on : (a b c : List (List ℕ)) → Grows a b → Grows b c → Grows a c
 grows_on a b c one two = (one.0 ++ two.0, two.1 ∙ ap (λ (l : List (List ℕ)). l ++ two.0) one.1 ∙ append_assoc a one.0 two.0)

@@ -6,7 +6,7 @@
 --  70  57  blanks
 -- 127   1  the end of the line
 use Rattle.std.specs.Prelude.{◌≡◌, ℕ, ◌^◌, ◌==◌, ◌&&◌, nat_lt, Bool, true}
-use Rattle.std.specs.Prelude.{List, [], ◌∷◌, ◌++◌, length, codes, bytes_eq}
+use Rattle.std.specs.Prelude.{List, ◌++◌, length, codes, bytes_eq}
 use Rattle.std.specs.Prelude.{Option, Some, None, Result, Ok, Err, if◌then◌else◌}
 use Rattle.std.specs.List.{list_all}
 use Rattle.hex.specs.declared.error.FromHexError.{FromHexError}
@@ -24,7 +24,7 @@ magic = codes "ISO 8583 ISSUER BATCH   0001"
 -- the record of a heading
 unfoldable pub heading_bytes : Head → List ℕ
 heading_bytes h =
-    magic ++ (decimal 10 h.place ++ (encode_lower h.writer.bits ++ (blanks 57 ++ 10 ∷ [])))
+    magic ++ (decimal 10 h.place ++ (encode_lower h.writer.bits ++ (blanks 57 ++ codes "\n")))
 
 -- 16 bytes
 abbrev pub is_writer : Writer → Bool

@@ -8,7 +8,7 @@ ghost use Rattle.iso_shared.specs.Heading.{heading_bytes, heading_in, heading_by
 
 use crate::laws::headings_are_whole;
 use iso_log::RECORD;
-use iso_wire::laws::are_bytes;
+use iso_wire::laws::{are_bytes, decimals};
 use iso_wire::{number_in, write_decimal};
 
 /// The words that a batch begins with, and the version of its records.
@@ -71,6 +71,7 @@ pub fn heading_bytes(heading: &Heading) -> [u8; RECORD]
     ensures whole { is_whole result ≡ true }
 {
     headings_are_whole();
+    decimals();
     let writer = writer_digits(&heading.writer);
     let mut bytes = [b' '; RECORD];
     put(&mut bytes, 0, MAGIC);

@@ -11,18 +11,23 @@ use crate::patience::Patience;
 use crate::store::Store;
 use iso_hosts::laws::no_host_is_wrong;
 use iso_record::laws::{nothing_else, rows_are_whole, rows_come_back};
+use iso_wire::laws::decimals;
 
 /// Each heading is a record.
 pub fn headings_are_whole()
     // Whatever the place and the writer, a heading is written as 128 bytes, none of which is zero.
     ensures { HeadingsAreWhole }
-{}
+{
+    decimals();
+}
 
 /// Each heading comes back.
 pub fn headings_come_back()
     // A heading that can be written is read again from its record.
     ensures { HeadingsComeBack }
-{}
+{
+    decimals();
+}
 
 /// Nothing else is a heading.
 pub fn no_other_heading()

@@ -1,1 +1,1 @@
-pub mod Waits
+mod Waits

@@ -1,18 +1,30 @@
 -- Who waits, and in which order.
-use Rattle.std.proofs.Common.{◌≡◌, ℕ, Bool, true, false, refl, arith, ap, sym, ◌∙◌, List, [], ◌∷◌, ◌++◌, length, take, drop, ◌≤◌, ◌+◌, cond, subst}
-use Rattle.std.specs.Prelude.{◌==◌, ◌||◌, Option, not, count_by, filter, nat_le, Some, None, slice_get}
+use Rattle.std.proofs.Common.{◌≡◌, ℕ, Bool, true, false, refl, arith, ap, sym, ◌∙◌, List, [], ◌∷◌, ◌++◌, ◌≤◌, ◌+◌, cond, subst}
+use Rattle.std.specs.Prelude.{◌==◌, ◌||◌, ◌↔◌, Option, not, filter, nat_le, Some, None, slice_get}
 use Rattle.std.specs.Option.{option_to_list}
 use Rattle.std.specs.List.{AllByRecursion}
+use Rattle.std.proofs.lemmas.Bool.{eqb-true, eq-eqb, both_ways}
+use Rattle.std.proofs.lemmas.List.Elements.{All-from_recursion, recursion_from_All, All-weaker, All-push, All-filter}
 use Rattle.std.proofs.lemmas.List.Sums.{sum_by-append, sum_by-cons}
 use Rattle.std.proofs.lemmas.Grind.{common_steps}
-use Rattle.iso_order.proofs.Lists.{all-weaker, all-push, all-filter}
-use Rattle.iso_order.proofs.Plain.{same_number, number_self, clash}
 use Rattle.iso_waits.specs.declared.due.Due.{Due}
-use Rattle.iso_waits.specs.Waits.{is_first, due_by, due_later, put_off, waits, without, IsInOrder, AreInTime}
+use Rattle.iso_waits.specs.Waits.{is_first, due_by, due_later, put_off, waits, without, times, IsInOrder, AreInTime}
 
--- how often an order waits
-abbrev pub times : ℕ → List Due → ℕ
-times stan waiting = count_by (λ d. d.stan == stan) waiting
+-- ---- what holds of all who wait
+
+-- what follows from it holds of all too
+all-weaker : (P Q : Due → Type 0) (waiting : List Due) → ((d : Due) → P d → Q d) → AllByRecursion P waiting → AllByRecursion Q waiting
+all-weaker P Q waiting f all = recursion_from_All Q waiting (All-weaker P Q f waiting (All-from_recursion P waiting all))
+
+-- it holds of one more
+all-push : (P : Due → Type 0) (waiting : List Due) (d : Due) → AllByRecursion P waiting → P d → AllByRecursion P (waiting ++ d ∷ [])
+all-push P waiting d all p = recursion_from_All P (waiting ++ d ∷ []) (All-push P waiting d (All-from_recursion P waiting all) p)
+
+-- it holds of those that are left
+all-filter : (P : Due → Type 0) (test : Due → Bool) (waiting : List Due) → AllByRecursion P waiting → AllByRecursion P (filter test waiting)
+all-filter P test waiting all = recursion_from_All P (filter test waiting) (All-filter test P waiting (All-from_recursion P waiting all))
+
+-- ---- how often an order waits
 
 pub times-push : (stan : ℕ) (waiting : List Due) (d : Due) → times stan (waiting ++ d ∷ []) ≡ times stan waiting + cond (d.stan == stan) 1 0
 times-push stan waiting d = sum_by-append (λ (d : Due). cond (d.stan == stan) 1 0) waiting (d ∷ []) ∙ grind (arith, common_steps, sum_by-cons (λ (d : Due). cond (d.stan == stan) 1 0) d [])
@@ -37,14 +49,14 @@ times-without stan closed (d ∷ ds) = go (d.stan == closed) refl (d.stan == sta
         times stan (cond (not (d.stan == closed)) (d ∷ without closed ds) (without closed ds)) ≡ cond (stan == closed) 0 (times stan (d ∷ ds))
     go true e true f true g rest = rw (e, g) (rest ∙ ap {B = ℕ} (λ b. cond b 0 (times stan ds)) g)
     go true e true f false g rest =
-        let same : (stan == closed) ≡ true = number_self stan closed (sym (same_number d.stan stan f) ∙ same_number d.stan closed e) in
-        absurd (clash (stan == closed) same g)
+        let same : (stan == closed) ≡ true = eq-eqb stan closed (sym (eqb-true d.stan stan f) ∙ eqb-true d.stan closed e) in
+        absurd (both_ways (stan == closed) g same)
     go true e false f true g rest = rw (e, g) (rest ∙ ap {B = ℕ} (λ b. cond b 0 (times stan ds)) g)
     go true e false f false g rest =
         rw (e, g) (rest ∙ ap {B = ℕ} (λ b. cond b 0 (times stan ds)) g ∙ omega (arith, sum_by-cons (λ (d : Due). cond (d.stan == stan) 1 0) d ds, ap {B = ℕ} (λ b. cond b 1 0) f))
     go false e true f true g rest =
-        let same : (d.stan == closed) ≡ true = number_self d.stan closed (same_number d.stan stan f ∙ same_number stan closed g) in
-        absurd (clash (d.stan == closed) same e)
+        let same : (d.stan == closed) ≡ true = eq-eqb d.stan closed (eqb-true d.stan stan f ∙ eqb-true stan closed g) in
+        absurd (both_ways (d.stan == closed) e same)
     go false e false f true g rest =
         rw (e, g) (omega (arith, sum_by-cons (λ (d : Due). cond (d.stan == stan) 1 0) d (without closed ds), ap {B = ℕ} (λ b. cond b 1 0) f, rest, ap {B = ℕ} (λ b. cond b 0 (times stan ds)) g))
     go false e b f false g rest =
@@ -86,7 +98,7 @@ in-time-put-off last [] t = t
 in-time-put-off last (d ∷ ds) t = in-time-push last ds (record { stan = d.stan; at = last }) (omega arith) (record { in_order = t.in_order.1; none_later = t.none_later.1 })
 
 -- the first is due first
-pub none-before : (d : Due) (ds : List Due) → IsInOrder (d ∷ ds) → AllByRecursion (λ e. d.at ≤ e.at) (d ∷ ds)
+none-before : (d : Due) (ds : List Due) → IsInOrder (d ∷ ds) → AllByRecursion (λ e. d.at ≤ e.at) (d ∷ ds)
 none-before d ds order = (omega arith, order.0)
 
 -- ---- those that are due wait first
@@ -98,29 +110,26 @@ none-due now d (e ∷ ds) h all =
     let later : nat_le e.at now ≡ false = grind (arith, common_steps, h, all.0) in
     (ap (λ b. cond b (e ∷ due_by now ds) (due_by now ds)) later ∙ rest.0, ap (λ b. cond (not b) (e ∷ due_later now ds) (due_later now ds)) later ∙ ap (λ xs. e ∷ xs) rest.1)
 
-pub first-due : (now : ℕ) (waiting : List Due) → IsInOrder waiting → (take (length (due_by now waiting)) waiting ≡ due_by now waiting) × (drop (length (due_by now waiting)) waiting ≡ due_later now waiting)
-first-due now [] order = (refl, refl)
-first-due now (d ∷ ds) order = go (nat_le d.at now) refl (first-due now ds order.1)
+pub due-first : (now : ℕ) (waiting : List Due) → IsInOrder waiting → waiting ≡ due_by now waiting ++ due_later now waiting
+due-first now [] order = refl
+due-first now (d ∷ ds) order = go (nat_le d.at now) refl (due-first now ds order.1)
   where
-    go : (b : Bool) → nat_le d.at now ≡ b → (take (length (due_by now ds)) ds ≡ due_by now ds) × (drop (length (due_by now ds)) ds ≡ due_later now ds) →
-        (take (length (due_by now (d ∷ ds))) (d ∷ ds) ≡ due_by now (d ∷ ds)) × (drop (length (due_by now (d ∷ ds))) (d ∷ ds) ≡ due_later now (d ∷ ds))
-    go true e rest = rw e (ap (λ xs. d ∷ xs) rest.0, rest.1)
+    go : (b : Bool) → nat_le d.at now ≡ b → ds ≡ due_by now ds ++ due_later now ds → d ∷ ds ≡ due_by now (d ∷ ds) ++ due_later now (d ∷ ds)
+    go true e rest = rw e (ap (λ xs. d ∷ xs) rest)
     go false e rest =
         let none = none-due now d ds e order.0 in
-        rw (e, none.0, none.1) (refl, refl)
+        rw (e, none.0, none.1) refl
 
--- the first that waits, as it is taken
-pub first-taken : (waiting : List Due) (d : Due) → Some d ≡ slice_get waiting 0 → take 1 waiting ≡ d ∷ []
-first-taken [] d h = cc
-first-taken (e ∷ ds) d h = let same : e ≡ d = cc in ap (λ x. x ∷ []) same
+-- ---- the first
 
--- who waits, where nothing does
-pub none-waits : (stan : ℕ) (waiting : List Due) → waiting ≡ [] → times stan waiting ≡ 0
-none-waits stan waiting h = ap (times stan) h
+-- who waits first waits
+first-waits : (d : Due) (ds : List Due) → 1 ≤ times d.stan (d ∷ ds)
+first-waits d ds = omega (arith, sum_by-cons (λ (e : Due). cond (e.stan == d.stan) 1 0) d ds, ap {B = ℕ} (λ b. cond b 1 0) (eq-eqb d.stan d.stan refl))
 
--- the first waits
-pub first-waits : (d : Due) (ds : List Due) → 1 ≤ times d.stan (d ∷ ds)
-first-waits d ds = omega (arith, sum_by-cons (λ (e : Due). cond (e.stan == d.stan) 1 0) d ds, ap {B = ℕ} (λ b. cond b 1 0) (number_self d.stan d.stan refl))
+-- none waits where none waits first
+pub none-waits : (waiting : List Due) → (waiting ≡ []) ↔ ((stan : ℕ) → times stan waiting ≡ 0)
+none-waits [] = (λ none stan. refl, λ none. refl)
+none-waits (d ∷ ds) = (λ none stan. cc, λ none. absurd (omega (arith, first-waits d ds, none d.stan)))
 
 pub first-before : (waiting : List Due) (d : Due) → Some d ≡ slice_get waiting 0 → IsInOrder waiting → AllByRecursion (λ e. d.at ≤ e.at) waiting
 first-before [] d h order = cc

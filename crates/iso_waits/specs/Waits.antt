@@ -1,5 +1,5 @@
 -- Who waits for an answer, until when, and in which order.
-use Rattle.std.specs.Prelude.{◌≤◌, ℕ, Bool, false, not, ◌==◌, ◌+◌, List, [], ◌∷◌, ◌++◌, nat_le, min, map, filter, take, drop}
+use Rattle.std.specs.Prelude.{◌≤◌, ℕ, Bool, false, not, ◌==◌, ◌+◌, List, [], ◌∷◌, ◌++◌, nat_le, min, count_by, map, filter, take, drop}
 use Rattle.std.specs.List.{AllByRecursion, list_any}
 use Rattle.iso_waits.specs.declared.due.Due.{Due}
 
@@ -39,6 +39,10 @@ is_first stan (d ∷ ds) = d.stan == stan
 -- the order of that trace number waits
 abbrev pub waits : ℕ → List Due → Bool
 waits stan waiting = list_any (λ d. d.stan == stan) waiting
+
+-- how often the order of that trace number waits
+abbrev pub times : ℕ → List Due → ℕ
+times stan waiting = count_by (λ d. d.stan == stan) waiting
 
 -- who is due first waits first
 abbrev pub IsInOrder : List Due → Type 0

@@ -1,5 +1,5 @@
 -- Values that stand side by side, and are copied at once.
-use Rattle.std.proofs.Common.{◌≡◌, ℕ, ◌+◌, ◌-◌, ◌≤◌, List, [], ◌++◌, take, drop, sym, ap, ◌∙◌, arith, append_assoc, append-nil}
+use Rattle.std.proofs.Common.{◌≡◌, ℕ, ◌+◌, ◌-◌, ◌≤◌, List, ◌++◌, take, drop, sym, ap, ◌∙◌, arith, append_assoc}
 use Rattle.std.proofs.Math.Seq.{take-add}
 use Rattle.std.proofs.lemmas.List.{drop-drop}
 use Rattle.iso_wire.specs.Packing.{between, Continues}
@@ -12,10 +12,6 @@ between-join l from at end one two =
     ap (λ (n : ℕ). take n (drop from l)) whole
     ∙ take-add (at - from) (end - at) (drop from l)
     ∙ ap (λ (b : List ℕ). take (at - from) (drop from l) ++ take (end - at) b) (drop-drop (at - from) from l ∙ ap (λ (n : ℕ). drop n l) place)
-
--- no bytes
-pub between-none : (l : List ℕ) (at : ℕ) → between l at at ≡ []
-between-none l at = let none : at - at ≡ 0 = omega arith in ap (λ (n : ℕ). take n (drop at l)) none
 
 -- a value that is still to be copied with those before it
 pub goes_on : (old values part : List ℕ) (from at end : ℕ) → from ≤ at → at ≤ end → part ≡ between values at end → (from ≤ end) × Continues old old (between values from at) part (between values from end)
@@ -36,13 +32,6 @@ goes_behind old mid new values front value from at end le first second is =
           ∙ append_assoc old run (front ++ b)
           ∙ ap (λ (l : List ℕ). old ++ (run ++ (front ++ l))) (sym is),
     )
-
--- a part that is written whole
-pub goes_past : (old mid new values part : List ℕ) (from at end : ℕ) → mid ≡ old ++ between values from at → new ≡ mid ++ part → (end ≤ end) × Continues old new (between values from at) part (between values end end)
-goes_past old mid new values part from at end first second = (
-  omega arith,
-  ap (λ (l : List ℕ). new ++ l) (between-none values end) ∙ append-nil new ∙ second ∙ ap (λ (l : List ℕ). l ++ part) first ∙ append_assoc old (between values from at) part,
-)
 
 -- one part more, of all that is to be written
 pub one_more : (all now new values part rest : List ℕ) (from at end next : ℕ) → Continues now new (between values from at) part (between values next end)

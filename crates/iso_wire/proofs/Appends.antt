@@ -34,15 +34,6 @@ module _ (x y : Elements) (n : ℕ) (later v : List ℕ) (awaits : Awaits x (n �
         count = ap length made.ends ∙ omega (arith, awaits.count, length-append es (length (b ++ v) ∷ []), length-append awaits.done (n ∷ []));
       }
 
--- before the first element all are awaited
-pub awaits_all : (x : Elements) (ns : List ℕ) → members x.numbers ≡ ns → IsMadeOf x [] [] → Awaits x ns
-awaits_all x ns numbers made = record {
-  ends = subst (λ (l : List ℕ). Ascend 0 l (length x.values.items)) (sym made.ends) (sym (ap length made.values));
-  done = [];
-  numbers = numbers;
-  count = ap length made.ends;
-}
-
 -- behind the last one they are whole
 pub awaits_none : (x : Elements) → Awaits x [] → IsWhole x
 awaits_none x awaits = record { ends = awaits.ends; count = awaits.count ∙ ap length (sym (append-nil awaits.done) ∙ sym awaits.numbers) }

@@ -1,5 +1,5 @@
 -- The numbers that digits write, and the digits of numbers.
-use Rattle.std.proofs.Common.{◌≡◌, ℕ, zero, suc, ◌+◌, ◌-◌, ◌*◌, ◌/◌, ◌%◌, ◌^◌, ◌<◌, ◌≤◌, true, List, [], ◌∷◌, ◌++◌, length, length-append, get_or, take, refl, ap, ◌∙◌, arith, add-one, le-leb}
+use Rattle.std.proofs.Common.{◌≡◌, ℕ, zero, suc, ◌+◌, ◌-◌, ◌*◌, ◌/◌, ◌%◌, ◌^◌, ◌<◌, ◌≤◌, true, List, [], ◌∷◌, ◌++◌, length, length-append, get_or, take, refl, ap, subst, ◌∙◌, arith, add-one, le-leb}
 use Rattle.std.proofs.Math.Nat.{pow-le-pow_right}
 use Rattle.std.proofs.Math.Seq.{take-suc}
 use native.Mathlib.Numerals.{unary_clauses}
@@ -12,7 +12,7 @@ use Rattle.iso_parts.specs.Class.{is_digit}
 use Rattle.iso_wire.specs.Decimal.{decimal, are_digits, number_after, number}
 
 -- a digit behind the others
-pub number_after-push : (n : ℕ) (ds : List ℕ) (d : ℕ) → number_after n (ds ++ d ∷ []) ≡ 10 * number_after n ds + (d - 48)
+number_after-push : (n : ℕ) (ds : List ℕ) (d : ℕ) → number_after n (ds ++ d ∷ []) ≡ 10 * number_after n ds + (d - 48)
 number_after-push n [] d = refl
 number_after-push n (c ∷ cs) d = number_after-push (10 * n + (c - 48)) cs d
 
@@ -44,7 +44,7 @@ power-fits n i k lt less le =
     omega arith
 
 -- fewer digits than there may be
-pub power-up : (n i k : ℕ) → n < 10 ^ i → i ≤ k → n < 10 ^ k
+power-up : (n i k : ℕ) → n < 10 ^ i → i ≤ k → n < 10 ^ k
 power-up n i k lt le =
     let ten : 0 < 10 = omega arith in
     let most : 10 ^ i ≤ 10 ^ k = pow-le-pow_right ten {i = i} {j = k} le in
@@ -55,6 +55,24 @@ pub are_digits-most : (least most : ℕ) (text : List ℕ) → are_digits least 
 are_digits-most least most text h =
     let sizes = and_parts (nat_le least (length text) && nat_le (length text) most) (list_all is_digit text) h in
     leb-true (length text) most (and_parts (nat_le least (length text)) (nat_le (length text) most) sizes.0).1
+
+digit-small : (d : ℕ) → is_digit d ≡ true → d - 48 ≤ 9
+digit-small d h = grind (arith, nat_tests)
+
+number_after-below : (b n : ℕ) (text : List ℕ) → list_all is_digit text ≡ true → b < 10 ^ n → number_after b text < 10 ^ (n + length text)
+number_after-below b n [] all lt = let same : n + 0 ≡ n = omega arith in rw same lt
+number_after-below b n (d ∷ ds) all lt =
+    let both = and_parts (is_digit d) (list_all is_digit ds) all in
+    let place : n + length (d ∷ ds) ≡ (n + 1) + length ds = omega arith in
+    rw place (number_after-below (10 * b + (d - 48)) (n + 1) ds both.1 (power-more b n (d - 48) lt (digit-small d both.0)))
+
+-- how large the number of so many digits can be
+pub number-most : (least most : ℕ) (text : List ℕ) → are_digits least most text ≡ true → number text < 10 ^ most
+number-most least most text h =
+    let all = (and_parts (nat_le least (length text) && nat_le (length text) most) (list_all is_digit text) h).1 in
+    let own : 0 + length text ≡ length text = omega arith in
+    let below : number text < 10 ^ length text = subst (λ (k : ℕ). number text < 10 ^ k) own (number_after-below 0 0 text all (omega arith)) in
+    power-up (number text) (length text) most below (are_digits-most least most text h)
 
 -- a number of few digits is one of at most so many
 pub below_most : (r : Option ℕ) (k most : ℕ) → k ≤ most → IfSome r (λ n. n < 10 ^ k) → IfSome r (λ n. n < 10 ^ most)

@@ -1,5 +1,5 @@
 -- A stream is split into frames and a rest in one way.
-use Rattle.std.proofs.Common.{rules, ◌≡◌, ℕ, true, false, zero, suc, ◌+◌, ◌-◌, ◌*◌, ◌/◌, ◌%◌, ◌<◌, ◌≤◌, List, [], ◌∷◌, ◌++◌, length, take, drop, sym, refl, ap, ◌∙◌, arith, append_assoc, append-nil, length-append, inl, inr, ◌⊎◌}
+use Rattle.std.proofs.Common.{rules, ◌≡◌, ℕ, true, false, zero, suc, ◌+◌, ◌-◌, ◌*◌, ◌/◌, ◌%◌, ◌<◌, ◌≤◌, List, [], ◌∷◌, ◌++◌, length, take, drop, sym, refl, ap, ◌∙◌, arith, append_assoc, length-append, inl, inr, ◌⊎◌}
 use Rattle.std.proofs.lemmas.List.{length-take-le}
 use Rattle.std.proofs.lemmas.Bool.{cases_lt, cases_eq}
 use Rattle.std.proofs.Math.Seq.{take-append_seam, drop-append_seam}
@@ -170,17 +170,6 @@ frames_of-append h (d ∷ ds) others = ap (λ l. frame_of h d ++ l) (frames_of-a
 pub AllFit-append : (h : Header) (done others : List (List ℕ)) → AllFit h done → AllFit h others → AllFit h (done ++ others)
 AllFit-append h [] others f g = g
 AllFit-append h (d ∷ ds) others f g = (f.0, AllFit-append h ds others f.1 g)
-
--- one body more
-pub frames_more : (h : Header) (bodies : List (List ℕ)) (body rest : List ℕ) → frames_of h (bodies ++ body ∷ []) ++ rest ≡ frames_of h bodies ++ (frame_of h body ++ rest)
-frames_more h [] body rest = ap (λ (l : List ℕ). l ++ rest) (append-nil (frame_of h body))
-frames_more h (x ∷ xs) body rest =
-    append_assoc (frame_of h x) (frames_of h (xs ++ body ∷ [])) rest ∙ ap (λ (l : List ℕ). frame_of h x ++ l) (frames_more h xs body rest)
-    ∙ sym (append_assoc (frame_of h x) (frames_of h xs) (frame_of h body ++ rest))
-
-pub fit_more : (h : Header) (bodies : List (List ℕ)) (body : List ℕ) → AllFit h bodies → length body ≤ largest h → AllFit h (bodies ++ body ∷ [])
-fit_more h [] body f k = (k, tt)
-fit_more h (x ∷ xs) body f k = (f.0, fit_more h xs body f.1 k)
 
 pub split_behind : (h : Header) (done bodies : List (List ℕ)) (more rest : List ℕ) → AllFit h done → Splits h more bodies rest → Splits h (frames_of h done ++ more) (done ++ bodies) rest
 split_behind h done bodies more rest f s = record {

@@ -19,7 +19,7 @@ use Rattle.iso_wire.specs.Contents.{Contents}
 use Rattle.iso_parts.specs.Numbers.{numbers, numbers_in}
 use Rattle.iso_wire.specs.Numbers.{unknown}
 use Rattle.iso_parts.specs.Mti.{mti_size}
-use Rattle.iso_parts.proofs.NumberLaws.{one_more, no_more, no_numbers}
+use Rattle.iso_wire.proofs.NumberLaws.{one_more, no_more, no_numbers}
 use Rattle.iso_wire.specs.Reading.{◌>>=◌, halt, of_version, type_at, word_by, word_at, known_by, primary_at, secondary_known, secondary_at, words_by, words_at, answer, value_by, elements_at, message_at, whole}
 use Rattle.iso_wire.specs.ReadingLaws.{IsShort}
 use Rattle.iso_wire.specs.Taking.{IsReady}

@@ -16,7 +16,6 @@ use Rattle.iso_table.specs.Layout.{Layout, AreGood}
 use Rattle.iso_parts.specs.Numbers.{numbers_in}
 use Rattle.iso_wire.specs.Spelling.{AreBytes, BeginsWith, Spelling}
 use Rattle.iso_parts.specs.Mti.{mti_size}
-use Rattle.iso_parts.proofs.BitmapLaws.{bits_agree}
 use Rattle.iso_wire.specs.Reading.{◌>>=◌, halt, of_version, type_at, words_at, elements_at, message_at, whole}
 use Rattle.iso_wire.specs.ReadingLaws.{ReadsSpellings}
 use Rattle.iso_wire.proofs.Bytes.{bytes_take, bytes_drop}
@@ -24,7 +23,7 @@ use Rattle.iso_wire.proofs.Orders.{numbers_of, Values}
 use Rattle.iso_wire.proofs.ElementLaws.{elements_again, elements_taken, has_row, bind_ok, ok_is}
 use Rattle.iso_wire.proofs.Sets.{numbers_from_set, made_from_set, has_after}
 use Rattle.iso_wire.proofs.Types.{length-four_digits_of, mti_again, mti_takes}
-use Rattle.iso_wire.proofs.WordLaws.{short_or, words_again, words_taken}
+use Rattle.iso_wire.proofs.WordLaws.{bits_agree, short_or, words_again, words_taken}
 
 no_65 : (low : ℕ) (es : Values) → IsAscending low es → has es 65 ≡ false
 no_65 low [] asc = refl

@@ -3,10 +3,36 @@ use Rattle.std.proofs.Common.{◌≡◌, ℕ, zero, suc, ◌+◌, ◌≤◌, ◌
 use Rattle.iso_parts.specs.declared.spec.FieldSpec.{FieldSpec}
 use Rattle.iso_table.specs.Layout.{row_at}
 use Rattle.iso_parts.specs.Numbers.{numbers, first_missing}
-use Rattle.iso_parts.proofs.NumberLaws.{one_more, no_more, no_numbers}
 use Rattle.iso_wire.specs.Numbers.{unknown}
 
+pub one_more : (set : ℕ → Bool) (count n : ℕ) → set n ≡ true → numbers set (suc count) n ≡ n ∷ numbers set count (n + 1)
+unfolding numbers
+one_more set count n h = rw h refl
+
+pub no_more : (set : ℕ → Bool) (count n : ℕ) → set n ≡ false → numbers set (suc count) n ≡ numbers set count (n + 1)
+unfolding numbers
+no_more set count n h = rw h refl
+
+pub no_numbers : (set : ℕ → Bool) (n : ℕ) → numbers set zero n ≡ []
+unfolding numbers
+no_numbers set n = refl
+
 -- ---- two sets
+
+next_by : (t : Bool) (set other : ℕ → Bool) (count n : ℕ) → set n ≡ t → other n ≡ t → numbers set count (n + 1) ≡ numbers other count (n + 1) → numbers set (suc count) n ≡ numbers other (suc count) n
+next_by true set other count n here there rest = one_more set count n here ∙ ap (λ (l : List ℕ). n ∷ l) rest ∙ sym (one_more other count n there)
+next_by false set other count n here there rest = no_more set count n here ∙ rest ∙ sym (no_more other count n there)
+
+-- sets that agree have the same numbers
+pub numbers_agree : (set other : ℕ → Bool) (count n : ℕ) → ((k : ℕ) → n ≤ k → k < n + count → set k ≡ other k) → numbers set count n ≡ numbers other count n
+numbers_agree set other zero n agrees = no_numbers set n ∙ sym (no_numbers other n)
+numbers_agree set other (suc count) n agrees =
+    next_by (set n) set other count n refl (sym (agrees n (omega arith) (omega arith))) (numbers_agree set other count (n + 1) (λ k low high. agrees k (omega arith) (omega arith)))
+
+-- an empty set has none
+pub numbers_none : (set : ℕ → Bool) (count n : ℕ) → ((k : ℕ) → n ≤ k → k < n + count → set k ≡ false) → numbers set count n ≡ []
+numbers_none set zero n empty = no_numbers set n
+numbers_none set (suc count) n empty = no_more set count n (empty n (omega arith) (omega arith)) ∙ numbers_none set count (n + 1) (λ k low high. empty k (omega arith) (omega arith))
 
 -- ---- rows
 

@@ -1,5 +1,5 @@
 -- Elements in ascending order: what is put, left out and found.
-use Rattle.std.proofs.Common.{◌≡◌, ◌≢◌, ℕ, ◌+◌, ◌<◌, ◌≤◌, Bool, true, false, cond, eqb, ltb, Some, None, List, [], ◌∷◌, ◌++◌, map, refl, ap, subst, ◌∙◌, arith}
+use Rattle.std.proofs.Common.{◌≡◌, ◌≢◌, ℕ, ◌+◌, ◌<◌, ◌≤◌, Bool, true, false, cond, eqb, ltb, Some, List, [], ◌∷◌, ◌++◌, map, refl, ap, subst, ◌∙◌, arith}
 use Rattle.std.proofs.lemmas.Bool.{eqb-true, ltb-true}
 use Rattle.std.proofs.lemmas.Bool.Decides.{nat_tests}
 use Rattle.iso_parts.specs.Numbers.{is_element}
@@ -95,16 +95,7 @@ without-there n w xs ys below asc =
     let t : eqb n n ≡ true = grind (arith, nat_tests) in
     without-below n xs ((n, w) ∷ ys) below ∙ rw t (ap (λ (l : Values). xs ++ l) (without-above (n + 1) n ys (omega arith) asc))
 
-pub without-between : (n : ℕ) (xs ys : Values) → IsBelow n xs → IsAscending (n + 1) ys → without n (xs ++ ys) ≡ xs ++ ys
-without-between n xs ys below asc = without-below n xs ys below ∙ ap (λ (l : Values). xs ++ l) (without-above (n + 1) n ys (omega arith) asc)
-
 -- ---- a value that is looked for
-
-pub value_in-above : (low n : ℕ) (es : Values) → n < low → IsAscending low es → value_in es n ≡ None
-value_in-above low n [] lt asc = refl
-value_in-above low n (e ∷ es) lt asc =
-    let t : eqb e.0 n ≡ false = grind (arith, nat_tests) in
-    rw t (value_in-above (e.0 + 1) n es (omega arith) asc.3)
 
 pub value_in-below : (n : ℕ) (xs ys : Values) → IsBelow n xs → value_in (xs ++ ys) n ≡ value_in ys n
 value_in-below n [] ys below = refl
@@ -116,14 +107,6 @@ pub value_in-there : (n : ℕ) (w : List ℕ) (xs ys : Values) → IsBelow n xs 
 value_in-there n w xs ys below =
     let t : eqb n n ≡ true = grind (arith, nat_tests) in
     value_in-below n xs ((n, w) ∷ ys) below ∙ rw t refl
-
-pub value_in-between : (n : ℕ) (xs ys : Values) → IsBelow n xs → IsAscending (n + 1) ys → value_in (xs ++ ys) n ≡ None
-value_in-between n xs ys below asc = value_in-below n xs ys below ∙ value_in-above (n + 1) n ys (omega arith) asc
-
--- what ascends behind a number stands above it
-pub IsAscending-above : (low n : ℕ) (ys : Values) → IsAbove n ys → IsAscending low ys → IsAscending (n + 1) ys
-IsAscending-above low n [] above asc = tt
-IsAscending-above low n (e ∷ es) above asc = (omega arith, asc.1, asc.2, asc.3)
 
 -- what stands behind an element ascends from its number on
 pub IsAscending-after : (low n : ℕ) (w : List ℕ) (xs ys : Values) → IsAscending low (xs ++ (n, w) ∷ ys) → IsAscending (n + 1) ys

@@ -11,7 +11,7 @@ use Rattle.iso_parts.specs.declared.bitmap.BitmapCoding.TheVariants.{Raw}
 use Rattle.iso_parts.specs.declared.spec.FieldSpec.{FieldSpec}
 use Rattle.iso_parts.specs.Bitmap.{PlainBitmaps}
 use Rattle.iso_parts.specs.Buffers.{Keeps}
-use Rattle.iso_parts.proofs.Plain.{refusal_from_fits}
+use Rattle.iso_parts.specs.Spec.{refusal, Fits}
 use Rattle.iso_wire.specs.declared.fault.PackFault.{PackFault}
 use Rattle.iso_wire.specs.declared.fault.PackFault.TheVariants.{WrongVersion, NoRow, WrongLength, NotInClass, PadEnd, Memory}
 use Rattle.iso_wire.specs.Contents.{Contents}
@@ -28,6 +28,9 @@ use Rattle.iso_wire.proofs.Unpacks.{spelled_is_read}
 use Rattle.iso_wire.proofs.Orders.{Values}
 
 -- ---- faults
+
+refusal_from_fits : (s : FieldSpec) (v : List ℕ) → Fits s v → refusal s v ≡ None
+refusal_from_fits s v fits = rw (fits.length, fits.class, fits.pad) refl
 
 part_taken : (rows : List (Option FieldSpec)) (n : ℕ) (v b : List ℕ) → PartAs rows n v b → refused_by (row_at rows n) n v ≡ None
 part_taken rows n v b part = ap (λ (r : Option FieldSpec). refused_by r n v) part.1 ∙ ap (refused_field n) (refusal_from_fits part.0 v part.2.1.0)

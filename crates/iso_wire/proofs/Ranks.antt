@@ -3,7 +3,7 @@ use Rattle.std.proofs.Common.{◌≡◌, ◌≢◌, ℕ, zero, suc, ◌+◌, ◌
 use Rattle.iso_parts.specs.declared.bitmap.Bitmap.{Bitmap}
 use Rattle.iso_parts.specs.Bitmap.{in_words, contains}
 use Rattle.iso_parts.specs.Numbers.{numbers, members, members_below}
-use Rattle.iso_parts.proofs.NumberLaws.{one_more, no_more, no_numbers, numbers_agree, numbers_none}
+use Rattle.iso_wire.proofs.NumberLaws.{one_more, no_more, no_numbers, numbers_agree, numbers_none}
 use Rattle.iso_wire.proofs.Buffers.{Below, Above}
 
 -- ---- numbers in a row

@@ -4,8 +4,12 @@ use Rattle.std.proofs.lemmas.Bool.{ltb-false}
 use Rattle.iso_parts.specs.Judging.{size_at, some_count, some_size}
 use Rattle.iso_parts.specs.Mti.{mti_size}
 use Rattle.iso_parts.specs.Numbers.{numbers_in}
-use Rattle.iso_parts.specs.Reading.{body_size, body_of}
+use Rattle.iso_parts.specs.Part.{prefix}
+use Rattle.iso_parts.specs.Reading.{prefix_size, body_size, body_of}
+use Rattle.iso_parts.specs.declared.digits.Digits.TheVariants as digits
 use Rattle.iso_parts.specs.declared.fault.FieldFault.{FieldFault}
+use Rattle.iso_parts.specs.declared.prefix.Length.{Length}
+use Rattle.iso_parts.specs.declared.prefix.Length.TheVariants as lengths
 use Rattle.iso_parts.specs.declared.spec.FieldSpec.{FieldSpec}
 use Rattle.iso_table.specs.Layout.{Layout}
 use Rattle.iso_wire.specs.Contents.{Contents}
@@ -38,6 +42,28 @@ abbrev pub words : ℕ → ℕ → ℕ → Result (ℕ × ℕ × ℕ) UnpackFaul
 words first second size = Ok (first, second, size)
 
 -- ---- a length
+
+-- it has its size
+pub length-prefix : (k : Length) (n : ℕ) → length (prefix k n) ≡ prefix_size k
+length-prefix lengths.Fixed n = refl
+length-prefix (lengths.LL digits.Ascii) n = refl
+length-prefix (lengths.LL digits.Bcd) n = refl
+length-prefix (lengths.LLL digits.Ascii) n = refl
+length-prefix (lengths.LLL digits.Bcd) n = refl
+length-prefix (lengths.LLLL digits.Ascii) n = refl
+length-prefix (lengths.LLLL digits.Bcd) n = refl
+
+-- a whole good one tells its count
+pub count_is : (t : Bool) (r : Result ℕ FieldFault) (n : ℕ) → cond t (Ok None) (some_count r) ≡ Ok (Some n) → (t ≡ false) × (r ≡ Ok n)
+count_is true r n e = absurd cc
+count_is false (Ok m) n e = let same : m ≡ n = cc in (refl, ap Ok same)
+count_is false (Err f) n e = absurd cc
+
+-- a whole bad one is the fault
+pub count_fails : (t : Bool) (r : Result ℕ FieldFault) (e : FieldFault) → cond t (Ok None) (some_count r) ≡ Err e → (t ≡ false) × (r ≡ Err e)
+count_fails true r e is = absurd cc
+count_fails false (Ok m) e is = absurd cc
+count_fails false (Err f) e is = let same : f ≡ e = cc in (refl, ap Err same)
 
 -- the bytes end inside the length
 pub lacks_by : (t : Bool) (r : Result ℕ FieldFault) → cond t (Ok None) (some_count r) ≡ Ok None → t ≡ true

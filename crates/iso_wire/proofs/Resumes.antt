@@ -6,8 +6,6 @@ use Rattle.iso_parts.specs.Judging.{count_at, size_at, some_size}
 use Rattle.iso_parts.specs.declared.fault.FieldFault.{FieldFault}
 use Rattle.iso_parts.specs.declared.fault.FieldFault.TheVariants.{WrongLength, NotInClass, PadEnd, BadLengthDigits, LengthOver, BadFiller, BadHex, Memory}
 use Rattle.iso_parts.specs.declared.spec.FieldSpec.{FieldSpec}
-use Rattle.iso_parts.specs.Bitmap.{map_size}
-use Rattle.iso_parts.specs.BitmapReading.{top}
 use Rattle.iso_parts.specs.PartLaws.{PartLaws, IsBodyFault, IsLengthFault, IsMore}
 use Rattle.iso_parts.specs.Reading.{FieldReading, got, more, fault, prefix_size, prefix_of, body_size, body_of, at_body, at_prefix, part_at}
 use Rattle.iso_table.specs.Layout.{Layout, row_at}
@@ -21,14 +19,13 @@ use Rattle.iso_parts.specs.declared.bitmap.Bitmap.{Bitmap}
 use Rattle.iso_wire.specs.Contents.{Contents}
 use Rattle.iso_parts.specs.Numbers.{numbers_in}
 use Rattle.iso_parts.specs.Mti.{mti_size}
-use Rattle.iso_parts.proofs.Judges.{count_is, count_fails}
-use Rattle.iso_wire.specs.Reading.{◌>>=◌, halt, type_at, primary_at, secondary_at, words_by, words_at, fault_place, answer, value_by, elements_at, message_at, whole}
+use Rattle.iso_wire.specs.Reading.{◌>>=◌, halt, type_at, words_at, fault_place, answer, value_by, elements_at, message_at, whole}
 use Rattle.iso_wire.specs.ReadingLaws.{IsShort}
-use Rattle.iso_wire.specs.Judging.{end_of, end_of_elements, end_by, body_end, body_end_under, behind_body, behind_maps, secondary_words, ends_from, IsPointWithin, GoesOn, Resumes, PassesPart, IsResumed}
-use Rattle.iso_wire.proofs.Endings.{Stays, type_stays, primary_stays, secondary_stays}
+use Rattle.iso_wire.specs.Judging.{end_of, end_of_elements, end_by, body_end_under, behind_body, ends_from, IsPointWithin, GoesOn, Resumes, PassesPart, IsResumed}
+use Rattle.iso_wire.proofs.Endings.{Stays, type_stays}
 use Rattle.iso_wire.proofs.NeverMemory.{NeverMemory, message}
 use Rattle.iso_wire.proofs.Orders.{Values}
-use Rattle.iso_wire.proofs.Readings.{behind_type, message_is, lacks_by, end_is, size_by}
+use Rattle.iso_wire.proofs.Readings.{behind_type, message_is, count_is, count_fails, lacks_by, size_by}
 
 -- what is good stays, whatever follows
 stays_ok : {A : Type 0} (r r' : Result A UnpackFault) (x : A) → r ≡ Ok x → Stays r r' → r' ≡ Ok x
@@ -45,9 +42,6 @@ end_behind n v (Err e) = refl
 
 abbrev behind_value : List (Option FieldSpec) → ℕ → List ℕ → ℕ → List ℕ → List ℕ × ℕ → Result (Values × ℕ) UnpackFault
 behind_value rows n ns at b first = elements_at rows ns (at + first.1) (drop first.1 b) >>= first_of n first.0
-
-pub parts_end : (rows : List (Option FieldSpec)) (old : List ℕ) (at : ℕ) (b : List ℕ) → old ≡ [] → end_of_elements rows old at b ≡ Ok at
-parts_end rows old at b none = ap (λ (l : List ℕ). end_of_elements rows l at b) none
 
 -- a length that is whole tells the same count, whatever follows
 record Counted (s : FieldSpec) (b : List ℕ) (n : ℕ) : Type 0 where
@@ -183,11 +177,6 @@ length_lacks rows s old ns n at b is row few =
     ∙ ap (λ (o : FieldReading). end_of (answer s n at (length d) o >>= behind_value rows n ns at d)) part
     ∙ ap (short n) (cond-true (ltb (length d) front) at (at + front) less)
 
--- an element without a row
-pub no_row_ends : (rows : List (Option FieldSpec)) (old ns : List ℕ) (n at : ℕ) (b : List ℕ) → old ≡ n ∷ ns → row_at rows n ≡ None → end_of_elements rows old at b ≡ halt n at (UnknownElement n)
-no_row_ends rows old ns n at b is none =
-    ap (λ (l : List ℕ). end_of_elements rows l at b) is ∙ ap (λ o. end_of (value_by o n at (drop at b) >>= behind_value rows n ns at (drop at b))) none
-
 -- ---- the body of an element
 
 size_stays : (s : FieldSpec) (count size : ℕ) (b x : List ℕ) → size_at s count b ≡ Ok (Some size) → size_at s count (b ++ x) ≡ Ok (Some size)
@@ -200,27 +189,7 @@ size_stays s count size b x is =
     ∙ ap (λ (l : List ℕ). some_size n (body_of s count l)) (take-append-le n b x room)
     ∙ sym (cond-false (ltb (length b) n) (Ok None) (some_size n (r b)) long) ∙ is
 
--- behind a good body, reading goes on at the next element
-pub body_goes_on : (rows : List (Option FieldSpec)) (s : FieldSpec) (ns : List ℕ) (n count at end : ℕ) (b : List ℕ) → row_at rows n ≡ Some s → body_end s n count at b ≡ Ok end → at ≤ length b
-    → (x : List ℕ) → (body_end_under (row_at rows n) n count at (b ++ x) >>= behind_body rows ns (b ++ x)) ≡ end_of_elements rows ns end (b ++ x)
-body_goes_on rows s ns n count at end b row read within = λ x.
-    let size = end_is n at end (size_at s count (drop at b)) read in
-    let place : drop at (b ++ x) ≡ drop at b ++ x = drop-append-le at b x within in
-    let stays : body_end s n count at (b ++ x) ≡ Ok end = ap (λ (l : List ℕ). end_by n at (size_at s count l)) place ∙ ap (end_by n at) (size_stays s count size.0 (drop at b) x size.1) ∙ ap Ok size.2 in
-    ap (λ o. body_end_under o n count at (b ++ x) >>= λ end. end_of_elements rows ns end (b ++ x)) row
-    ∙ ap (λ r. r >>= λ end. end_of_elements rows ns end (b ++ x)) stays
-
-pub body_ends : (rows : List (Option FieldSpec)) (s : FieldSpec) (ns : List ℕ) (n count at : ℕ) (b : List ℕ) (e : UnpackFault) → row_at rows n ≡ Some s → body_end s n count at b ≡ Err e → (body_end_under (row_at rows n) n count at b >>= behind_body rows ns b) ≡ Err e
-body_ends rows s ns n count at b e row bad =
-    ap (λ o. body_end_under o n count at b >>= λ end. end_of_elements rows ns end b) row ∙ ap (λ r. r >>= λ end. end_of_elements rows ns end b) bad
-
-pub no_row_body : (rows : List (Option FieldSpec)) (ns : List ℕ) (n count at : ℕ) (b : List ℕ) → row_at rows n ≡ None → (body_end_under (row_at rows n) n count at b >>= behind_body rows ns b) ≡ halt n at (UnknownElement n)
-no_row_body rows ns n count at b none = ap (λ o. body_end_under o n count at b >>= λ end. end_of_elements rows ns end b) none
-
 -- ---- from one point to the next
-
-pub passes_then : (t : Layout) (from : ResumePoint) (rest : Bitmap) (end : ℕ) (b : List ℕ) (r : Result ℕ UnpackFault) → PassesPart t from b rest (Ok end) → (after : ResumePoint) → Resumes t (points.Elements rest end) b after r → Resumes t from b after r
-passes_then t from rest end b r one after others = record { read = others.read; goes_on = λ x. one.0 x ∙ others.goes_on x; within = others.within }
 
 -- a part that is passed from where another point goes on alike
 pub passes_from : (t : Layout) (from mid : ResumePoint) (rest : Bitmap) (b : List ℕ) (r : Result ℕ JudgingStop) → GoesOn t from mid b → PassesPart t mid b rest r → PassesPart t from b rest r
@@ -252,48 +221,8 @@ type_goes_on t b mti read = λ x.
 pub type_ends : (t : Layout) (b : List ℕ) (e : UnpackFault) → type_at t b ≡ Err e → end_of (message_at t b) ≡ Err e
 type_ends t b e read = ap end_of (message_is t b ∙ ap (λ r. r >>= behind_type t b) read)
 
--- behind a good primary bitmap
-primary_again : (t : Layout) (b x : List ℕ) (first : ℕ) → mti_size t.mti ≤ length b → primary_at t (mti_size t.mti) (drop (mti_size t.mti) b) ≡ Ok first
-    → words_at t (mti_size t.mti) (drop (mti_size t.mti) (b ++ x)) ≡ words_by t (mti_size t.mti) (drop (mti_size t.mti) (b ++ x)) first
-primary_again t b x first within read =
-    let at = mti_size t.mti in
-    let stays : primary_at t at (drop at (b ++ x)) ≡ Ok first = ap (primary_at t at) (drop-append-le at b x within) ∙ stays_ok (primary_at t at (drop at b)) (primary_at t at (drop at b ++ x)) first read (primary_stays t at (drop at b) x) in
-    ap (λ r. r >>= words_by t at (drop at (b ++ x))) stays
-
 abbrev words : ℕ → ℕ → ℕ → Result (ℕ × ℕ × ℕ) UnpackFault
 words first second size = Ok (first, second, size)
-
-pub one_map_goes_on : (t : Layout) (b : List ℕ) (first : ℕ) (numbers : List ℕ) → mti_size t.mti ≤ length b → primary_at t (mti_size t.mti) (drop (mti_size t.mti) b) ≡ Ok first → ltb first top ≡ true → numbers ≡ numbers_in first 0
-    → (x : List ℕ) → ends_from t points.Primary (b ++ x) ≡ end_of_elements t.rows numbers (mti_size t.mti + map_size t.bitmap) (b ++ x)
-one_map_goes_on t b first numbers within read low is = λ x.
-    let size = map_size t.bitmap in
-    ap (λ r. r >>= behind_maps t (b ++ x)) (primary_again t b x first within read ∙ cond-true (ltb first top) (words first 0 size) (secondary_words t first (b ++ x)) low)
-    ∙ ap (λ (l : List ℕ). end_of_elements t.rows l (mti_size t.mti + size) (b ++ x)) (sym is)
-
-pub two_maps_go_on : (t : Layout) (b : List ℕ) (first : ℕ) → mti_size t.mti ≤ length b → primary_at t (mti_size t.mti) (drop (mti_size t.mti) b) ≡ Ok first → ltb first top ≡ false → GoesOn t points.Primary (points.Secondary first) b
-two_maps_go_on t b first within read high = λ x.
-    ap (λ r. r >>= behind_maps t (b ++ x)) (primary_again t b x first within read ∙ cond-false (ltb first top) (words first 0 (map_size t.bitmap)) (secondary_words t first (b ++ x)) high)
-
-pub primary_ends : (t : Layout) (b : List ℕ) (e : UnpackFault) → primary_at t (mti_size t.mti) (drop (mti_size t.mti) b) ≡ Err e → ends_from t points.Primary b ≡ Err e
-primary_ends t b e read = ap (λ r. r >>= words_by t (mti_size t.mti) (drop (mti_size t.mti) b) >>= behind_maps t b) read
-
--- behind a good secondary bitmap
-abbrev second_at : Layout → List ℕ → Result ℕ UnpackFault
-second_at t b = secondary_at t (mti_size t.mti + map_size t.bitmap) (drop (map_size t.bitmap) (drop (mti_size t.mti) b))
-
-pub second_goes_on : (t : Layout) (b : List ℕ) (first second : ℕ) (numbers : List ℕ) → mti_size t.mti + map_size t.bitmap ≤ length b → second_at t b ≡ Ok second → numbers ≡ numbers_in first second
-    → (x : List ℕ) → ends_from t (points.Secondary first) (b ++ x) ≡ end_of_elements t.rows numbers (mti_size t.mti + (map_size t.bitmap + map_size t.bitmap)) (b ++ x)
-second_goes_on t b first second numbers within read is = λ x.
-    let at = mti_size t.mti in
-    let size = map_size t.bitmap in
-    let inner : List ℕ = drop size (drop at b) in
-    let place : drop size (drop at (b ++ x)) ≡ inner ++ x = drop-drop size at (b ++ x) ∙ drop-append-le (at + size) b x within ∙ ap (λ (l : List ℕ). l ++ x) (sym (drop-drop size at b)) in
-    let stays : second_at t (b ++ x) ≡ Ok second = ap (secondary_at t (at + size)) place ∙ stays_ok (second_at t b) (secondary_at t (at + size) (inner ++ x)) second read (secondary_stays t (at + size) inner x) in
-    ap (λ r. r >>= (λ second. words first second (size + size)) >>= behind_maps t (b ++ x)) stays
-    ∙ ap (λ (l : List ℕ). end_of_elements t.rows l (at + (size + size)) (b ++ x)) (sym is)
-
-pub second_ends : (t : Layout) (b : List ℕ) (first : ℕ) (e : UnpackFault) → second_at t b ≡ Err e → ends_from t (points.Secondary first) b ≡ Err e
-second_ends t b first e read = ap (λ r. r >>= (λ second. words first second (map_size t.bitmap + map_size t.bitmap)) >>= behind_maps t b) read
 
 -- ---- what is resumed
 

@@ -1,6 +1,6 @@
 -- Values in a run behind those of the buffer.
 use Rattle.std.proofs.Common.{◌≡◌, ℕ, ◌+◌, ◌-◌, ◌≤◌, Bool, true, false, cond, ltb, List, [], ◌∷◌, ◌++◌, length, take, drop, Option, Result, Ok, Err, refl, sym, ap, subst, ◌∙◌, append_assoc, arith}
-use Rattle.std.proofs.lemmas.List.{append-nil, drop-drop, drop-take, take-take, take-append-drop, length-append, length-drop, length-take-le}
+use Rattle.std.proofs.lemmas.List.{drop-drop, drop-take, take-take, take-append-drop, length-append, length-drop, length-take-le}
 use Rattle.iso_parts.specs.declared.encoding.Coding.{Coding}
 use Rattle.iso_parts.specs.declared.encoding.Coding.TheVariants as codings
 use Rattle.iso_parts.specs.declared.padding.Pad.{Pad}
@@ -12,7 +12,7 @@ use Rattle.iso_parts.specs.Numbers.{members}
 use Rattle.iso_parts.specs.Reading.{◌>>=◌, got, more, prefix_size, prefix_of, body_size, without_padding, text_of, value_of, body_of, at_body, at_prefix, part_at}
 use Rattle.iso_parts.specs.Texts.{is_plain}
 use Rattle.iso_wire.specs.declared.elements.Elements.{Elements}
-use Rattle.iso_wire.specs.Ends.{elements_of, views, Ascend, IsMadeOf, IsWhole}
+use Rattle.iso_wire.specs.Ends.{elements_of, views, Ascend, IsMadeOf}
 use Rattle.iso_wire.specs.Runs.{run_in, views_with, AwaitsWith, IsBare, Pushes}
 use Rattle.iso_wire.proofs.Buffers.{elements_of-push, elements_of-later, ascend_push}
 use Rattle.iso_wire.proofs.Loop.{with_front, goes_on}
@@ -42,11 +42,6 @@ run_longer front b from at body to none low high =
     let same : at ≡ at + body = omega (arith, none) in
     ap (λ (l : List ℕ). front ++ l) (run_join b from at to low (omega (arith, none, high))) ∙ sym (append_assoc front (run_in b from at) (run_in b at to))
     ∙ ap (λ (k : ℕ). (front ++ run_in b from at) ++ run_in b k to) same
-
-pub run_none : (b : List ℕ) (at : ℕ) → run_in b at at ≡ []
-run_none b at =
-    let none : at - at ≡ 0 = omega arith in
-    ap (λ (k : ℕ). take k (drop at b)) none
 
 pub run_length : (b : List ℕ) (from to : ℕ) → from ≤ to → to ≤ length b → length (run_in b from to) ≡ to - from
 run_length b from to low high = length-take-le (to - from) (drop from b) (omega (arith, length-drop from b, low, high))
@@ -118,22 +113,6 @@ module _ (x y : Elements) (n : ℕ) (run after later v : List ℕ) (awaits : Awa
         numbers = ap members pushed.numbers ∙ awaits.numbers ∙ sym (append_assoc awaits.done (n ∷ []) later);
         count = ap length pushed.ends ∙ omega (arith, awaits.count, length-append es (length (b ++ v) ∷ []), length-append awaits.done (n ∷ []));
       }
-
--- before the first element all are awaited, and the run is empty
-pub run_awaits_all : (x : Elements) (run ns : List ℕ) → run ≡ [] → members x.numbers ≡ ns → IsMadeOf x [] [] → AwaitsWith x run ns
-run_awaits_all x run ns empty numbers made = record {
-  ends = subst (λ (l : List ℕ). Ascend 0 l (length (x.values.items ++ run))) (sym made.ends) (sym (ap (λ (l : List ℕ). length (l ++ run)) made.values ∙ ap length empty));
-  done = [];
-  numbers = numbers;
-  count = ap length made.ends;
-}
-
--- behind the last one, once the run is copied, they are whole
-pub run_whole : (x y : Elements) (run : List ℕ) → AwaitsWith x run [] → y.numbers ≡ x.numbers → IsMadeOf y x.ends.items (x.values.items ++ run) → IsWhole y
-run_whole x y run awaits numbers made = record {
-  ends = subst (λ (k : ℕ). Ascend 0 y.ends.items k) (sym (ap length made.values)) (subst (λ (l : List ℕ). Ascend 0 l (length (x.values.items ++ run))) (sym made.ends) awaits.ends);
-  count = ap length made.ends ∙ awaits.count ∙ ap length (sym (append-nil awaits.done) ∙ sym awaits.numbers ∙ ap members (sym numbers));
-}
 
 pub run_views : (x y : Elements) (run : List ℕ) → y.numbers ≡ x.numbers → IsMadeOf y x.ends.items (x.values.items ++ run) → views y ≡ views_with x run
 run_views x y run numbers made =

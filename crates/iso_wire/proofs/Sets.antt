@@ -4,7 +4,7 @@ use Rattle.std.proofs.lemmas.Bool.{cases_eq}
 use Rattle.std.proofs.lemmas.Bool.Decides.{nat_tests}
 use Rattle.iso_wire.specs.Elements.{has, IsAscending}
 use Rattle.iso_parts.specs.Numbers.{numbers}
-use Rattle.iso_parts.proofs.NumberLaws.{one_more, no_more, no_numbers}
+use Rattle.iso_wire.proofs.NumberLaws.{one_more, no_more, no_numbers}
 use Rattle.iso_wire.proofs.Orders.{numbers_of, Values}
 
 -- below where it begins it has nothing

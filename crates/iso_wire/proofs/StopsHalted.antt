@@ -11,7 +11,6 @@ use Rattle.iso_wire.specs.declared.fault.UnpackFault.{UnpackFault}
 use Rattle.iso_wire.specs.declared.fault.UnpackCause.{UnpackCause}
 use Rattle.iso_wire.specs.declared.fault.UnpackCause.TheVariants as causes
 use Rattle.iso_parts.specs.Numbers.{numbers_in}
-use Rattle.iso_parts.proofs.BitmapLaws.{large_first, first_small, first_large, bits_agree}
 use Rattle.iso_wire.specs.Numbers.{unknown}
 use Rattle.iso_wire.specs.Reading.{◌>>=◌, halt, word_by, word_at, known_by, primary_at, secondary_known, secondary_at, words_by, words_at}
 use Rattle.iso_wire.specs.Spelling.{AreBytes}
@@ -21,7 +20,7 @@ use Rattle.iso_wire.proofs.ElementLaws.{bind_ok, ok_is}
 use Rattle.iso_wire.proofs.Messages.{maps_agree}
 use Rattle.iso_wire.proofs.StopsMaps.{Agrees, high_bits, in_first, primary_known, secondary_numbers_known, primary_unknown_again, primary_all_known, secondary_unknown_again, primary_known_by, word_is, word_short, word_bad, known_ok, second_ok, none_by, second_bits, word_of}
 use Rattle.iso_wire.proofs.StopsNumbers.{all_have_rows}
-use Rattle.iso_wire.proofs.WordLaws.{WordsRead, short_or, word_or, words_again}
+use Rattle.iso_wire.proofs.WordLaws.{WordsRead, large_first, first_small, first_large, bits_agree, short_or, word_or, words_again}
 
 abbrev words : ℕ → ℕ → ℕ → Result (ℕ × ℕ × ℕ) UnpackFault
 words w v size = Ok (w, v, size)

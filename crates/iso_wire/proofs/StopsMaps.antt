@@ -16,7 +16,6 @@ use Rattle.iso_wire.specs.declared.fault.UnpackCause.TheVariants as causes
 use Rattle.iso_parts.specs.Numbers.{numbers_in}
 use Rattle.iso_wire.specs.Numbers.{unknown}
 use Rattle.iso_parts.specs.Mti.{mti_size}
-use Rattle.iso_parts.proofs.BitmapLaws.{small_first, large_first, bits_agree, one_none}
 use Rattle.iso_wire.specs.Reading.{◌>>=◌, halt, of_version, type_at, word_by, word_at, known_by, primary_at, secondary_known, secondary_at}
 use Rattle.iso_wire.specs.Spelling.{AreBytes}
 use Rattle.iso_wire.specs.Stops.{Piece, type, primary, secondary, owner, IsType, IsOwnType, HaveRows, IsUnknown, Halts}
@@ -26,7 +25,7 @@ use Rattle.iso_wire.proofs.Messages.{version_or}
 use Rattle.iso_wire.proofs.NumberLaws.{all_known}
 use Rattle.iso_wire.proofs.StopsNumbers.{all_have_rows, lowest_unknown, unknown_again}
 use Rattle.iso_wire.proofs.Types.{mti_again, mti_takes}
-use Rattle.iso_wire.proofs.WordLaws.{short_or}
+use Rattle.iso_wire.proofs.WordLaws.{small_first, large_first, bits_agree, one_none, short_or}
 
 -- ---- a piece that stops reading
 

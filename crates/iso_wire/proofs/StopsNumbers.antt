@@ -5,10 +5,9 @@ use Rattle.std.proofs.lemmas.Bool.Decides.{nat_tests}
 use Rattle.iso_parts.specs.declared.spec.FieldSpec.{FieldSpec}
 use Rattle.iso_table.specs.Layout.{row_at}
 use Rattle.iso_parts.specs.Numbers.{numbers}
-use Rattle.iso_parts.proofs.NumberLaws.{one_more, no_more, no_numbers, numbers_none}
 use Rattle.iso_wire.specs.Numbers.{unknown}
 use Rattle.iso_wire.specs.Stops.{below}
-use Rattle.iso_wire.proofs.NumberLaws.{known_next, unknown_here}
+use Rattle.iso_wire.proofs.NumberLaws.{one_more, no_more, no_numbers, numbers_none, known_next, unknown_here}
 
 -- ---- the numbers below one of a set
 

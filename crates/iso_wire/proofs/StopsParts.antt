@@ -3,17 +3,16 @@ use Rattle.std.proofs.Common.{◌≡◌, ℕ, ◌+◌, ◌≤◌, ◌<◌, Bool,
 use Rattle.std.proofs.lemmas.Bool.{ltb-false, ltb-true, lt-ltb, le-ltb, cond-true, cond-false}
 use Rattle.std.proofs.lemmas.List.{take_at, drop_at, drop-drop, length-append, length-take, length-drop}
 use Rattle.std.proofs.Math.Seq.{take-add}
-use Rattle.iso_parts.specs.declared.digits.Digits.TheVariants as digits
+use Rattle.iso_parts.specs.declared.prefix.Length.{Length}
 use Rattle.iso_parts.specs.declared.prefix.Length.TheVariants as lengths
 use Rattle.iso_parts.specs.declared.spec.FieldSpec.{FieldSpec}
 use Rattle.iso_parts.specs.declared.fault.FieldFault.{FieldFault}
 use Rattle.iso_parts.specs.declared.fault.FieldFault.TheVariants as faults
 use Rattle.iso_parts.specs.PartLaws.{PartLaws}
 use Rattle.iso_parts.specs.PieceLaws.{PieceLaws}
-use Rattle.iso_parts.specs.Pieces.{IsCount, IsBadCount, IsBadBody}
+use Rattle.iso_parts.specs.Pieces.{TellsCount, IsCount, IsBadCount, IsBadBody}
 use Rattle.iso_parts.specs.Reading.{prefix_size, prefix_of, body_size, body_of, more, at_body, at_prefix, part_at}
 use Rattle.iso_parts.specs.Spec.{IsGood}
-use Rattle.iso_parts.proofs.PartStops.{length_told}
 use Rattle.iso_table.specs.Layout.{Layout, AreGood}
 use Rattle.iso_wire.specs.declared.fault.UnpackFault.{UnpackFault}
 use Rattle.iso_wire.specs.declared.fault.UnpackCause.{UnpackCause}
@@ -24,6 +23,7 @@ use Rattle.iso_wire.specs.Stops.{count, body, Halts}
 use Rattle.iso_wire.proofs.Bytes.{bytes_take, bytes_drop}
 use Rattle.iso_wire.proofs.ElementLaws.{part_read, value_taken}
 use Rattle.iso_wire.proofs.Orders.{numbers_of, Values}
+use Rattle.iso_wire.proofs.Readings.{length-prefix}
 use Rattle.iso_wire.proofs.StopsMaps.{fault_is, fault_at, HaltsAs}
 
 -- ---- where a part stops
@@ -47,6 +47,12 @@ body_place s c p faults.LengthOver front bad = absurd bad
 body_place s c p faults.WrongLength front bad = absurd bad
 body_place s c p faults.PadEnd front bad = absurd bad
 body_place s c p faults.Memory front bad = absurd bad
+
+length_told : (k : Length) (max c : ℕ) (p : List ℕ) → TellsCount k max c p → length p ≡ prefix_size k
+length_told lengths.Fixed max c p told = ap length told.0
+length_told (lengths.LL d) max c p told = ap length told.1 ∙ length-prefix (lengths.LL d) c
+length_told (lengths.LLL d) max c p told = ap length told.1 ∙ length-prefix (lengths.LLL d) c
+length_told (lengths.LLLL d) max c p told = ap length told.1 ∙ length-prefix (lengths.LLLL d) c
 
 -- the length is good, and the body stops reading with this fault
 pub record BodyHalts (t : Layout) (n : ℕ) (s : FieldSpec) (at : ℕ) (b : List ℕ) (e : UnpackFault) : Type 0 where

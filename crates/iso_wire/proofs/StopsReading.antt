@@ -15,7 +15,7 @@ use Rattle.iso_wire.specs.declared.fault.UnpackCause.{UnpackCause}
 use Rattle.iso_wire.specs.Contents.{Contents}
 use Rattle.iso_parts.specs.Numbers.{numbers_in}
 use Rattle.iso_parts.specs.Mti.{mti_size}
-use Rattle.iso_parts.proofs.NumberLaws.{numbers_agree}
+use Rattle.iso_wire.proofs.NumberLaws.{numbers_agree}
 use Rattle.iso_wire.specs.Reading.{◌>>=◌, halt, type_at, primary_at, secondary_at, words_by, words_at, value_by, value_at, elements_at, message_at}
 use Rattle.iso_wire.specs.Spelling.{AreBytes}
 use Rattle.iso_wire.specs.Stops.{Piece, type, primary, secondary, count, body, owner, IsOwnType, below, IsBefore, CallFor, Halts, Stops}

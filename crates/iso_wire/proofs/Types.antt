@@ -1,12 +1,22 @@
 -- A message type that is written is read again, and one that is read is the one that was written.
-use Rattle.std.proofs.Common.{◌≡◌, ℕ, ◌+◌, ◌-◌, ◌*◌, ◌/◌, ◌%◌, ◌≤◌, ◌<◌, List, [], ◌∷◌, length, get_or, Some, refl, ap, ◌∙◌, arith}
+use Rattle.std.proofs.Common.{◌≡◌, ℕ, ◌+◌, ◌-◌, ◌*◌, ◌/◌, ◌%◌, ◌≤◌, ◌<◌, true, List, [], ◌∷◌, length, get_or, Some, refl, ap, ◌∙◌, arith}
 use Rattle.std.proofs.lemmas.Bool.{and_parts}
+use Rattle.std.proofs.lemmas.Bool.Decides.{nat_tests}
 use Rattle.std.proofs.lemmas.Option.{cond_some}
 use Rattle.iso_parts.specs.declared.digits.Digits.{Digits}
 use Rattle.iso_parts.specs.declared.digits.Digits.TheVariants as digits
+use Rattle.iso_parts.specs.Class.{is_digit}
 use Rattle.iso_parts.specs.Mti.{mti_size}
 use Rattle.iso_parts.specs.Digits.{four_digits, four_digits_of, four_digits_in}
-use Rattle.iso_parts.proofs.Prefixes.{is_digit-within, digit_low, digit_high}
+
+is_digit-within : (a : ℕ) → 48 ≤ a → a ≤ 57 → is_digit a ≡ true
+is_digit-within a low high = grind (arith, nat_tests)
+
+digit_low : (a : ℕ) → is_digit a ≡ true → 48 ≤ a
+digit_low a h = grind (arith, nat_tests)
+
+digit_high : (a : ℕ) → is_digit a ≡ true → a ≤ 57
+digit_high a h = grind (arith, nat_tests)
 
 record AreDigits (a b c d n : ℕ) : Type 0 where
   pub a_low : 48 ≤ a

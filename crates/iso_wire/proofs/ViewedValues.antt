@@ -12,31 +12,19 @@ use Rattle.iso_wire.specs.Contents.{Contents}
 use Rattle.iso_wire.specs.declared.bodies.Bodies.{Bodies}
 use Rattle.iso_wire.specs.Elements.{value_in}
 use Rattle.iso_parts.specs.Digits.{four_digits_of}
-use Rattle.iso_parts.proofs.Parts.{length-prefix}
 use Rattle.iso_wire.specs.Appending.{AppendsPart}
 use Rattle.iso_wire.specs.Faults.{out_of_memory}
 use Rattle.iso_wire.specs.Reading.{IsFaultOf, value_at}
 use Rattle.iso_wire.specs.ReadingLaws.{ReadsSpellings}
-use Rattle.iso_wire.specs.Spelling.{AreBytes, BeginsWith, PartAs, Spelling}
+use Rattle.iso_wire.specs.Spelling.{AreBytes, BeginsWith, Spelling}
 use Rattle.iso_wire.specs.Viewing.{ViewContents, front_of, starts_of, SpellsBodies, IsViewed}
+use Rattle.iso_wire.specs.ViewLaws.{IsValueAt}
 use Rattle.iso_wire.specs.declared.fault.UnpackFault.{UnpackFault}
 use Rattle.iso_wire.specs.declared.fault.UnpackCause.{UnpackCause}
 use Rattle.iso_wire.specs.declared.fault.UnpackCause.TheVariants.{Short, BadMti, WrongVersion, BadHex, ThirdBitmap, UnknownElement, Field, Memory}
 use Rattle.iso_wire.proofs.ElementLaws.{part_read}
 use Rattle.iso_wire.proofs.Orders.{Values}
-
--- the value of n is there, and its part lies behind a length before the body
-pub record IsValueAt (rows : List (Option FieldSpec)) (es : Values) (n start : ℕ) (b : List ℕ) : Type 0 where
-  pub value : List ℕ
-  pub part : List ℕ
-  pub behind : List ℕ
-  pub there : value_in es n ≡ Some value
-  pub is : PartAs rows n value part
-  pub front : front_of (row_at rows n) ≤ start
-  pub lies : drop (start - front_of (row_at rows n)) b ≡ part ++ behind
-
-here_of : {A : Type 0} (k n : ℕ) (x : A) (other : Option A) → eqb k n ≡ true → cond (eqb k n) (Some x) other ≡ Some x
-here_of k n x other is = cond-true (eqb k n) (Some x) other is
+use Rattle.iso_wire.proofs.Readings.{length-prefix}
 
 some_is : (a b : ℕ) → Some a ≡ Some b → a ≡ b
 some_is a b h = cc

@@ -8,9 +8,6 @@ use Rattle.iso_parts.specs.declared.spec.FieldSpec.{FieldSpec}
 use Rattle.iso_parts.specs.Part.{Body, Part, with_padding, prefix}
 use Rattle.iso_parts.specs.Reading.{prefix_size, body_size}
 use Rattle.iso_parts.specs.PartLaws.{PartLaws}
-use Rattle.iso_parts.specs.declared.digits.Digits.TheVariants as digits
-use Rattle.iso_parts.specs.declared.prefix.Length.TheVariants as lengths
-use Rattle.iso_parts.proofs.Parts.{length-prefix}
 use Rattle.iso_table.specs.Layout.{Layout, row_at, AreGood}
 use Rattle.iso_wire.specs.declared.fault.UnpackFault.{UnpackFault}
 use Rattle.std.specs.Borrow.{Bor}
@@ -28,6 +25,7 @@ use Rattle.iso_wire.proofs.Bytes.{bytes_drop}
 use Rattle.iso_wire.proofs.NeverMemory.{NeverMemory, message}
 use Rattle.iso_wire.proofs.ElementLaws.{value_taken}
 use Rattle.iso_wire.proofs.Orders.{Values}
+use Rattle.iso_wire.proofs.Readings.{length-prefix}
 use Rattle.iso_wire.proofs.Unpacks.{spelled_is_read, is_refused, is_settled}
 
 -- both read so many bytes, the one the values and the other their bodies

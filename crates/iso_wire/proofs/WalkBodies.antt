@@ -12,7 +12,6 @@ use Rattle.iso_parts.specs.declared.bitmap.Bitmap.{Bitmap}
 use Rattle.iso_parts.specs.declared.fault.FieldFault.{FieldFault}
 use Rattle.iso_parts.specs.declared.spec.FieldSpec.{FieldSpec}
 use Rattle.iso_parts.specs.Numbers.{members}
-use Rattle.iso_parts.proofs.Judges.{count_is}
 use Rattle.iso_table.specs.Layout.{Layout, row_at, AreGood}
 use Rattle.iso_wire.specs.Judging.{end_by, body_end}
 use Rattle.iso_wire.specs.Reading.{answer, value_by, value_at}
@@ -26,7 +25,7 @@ use Rattle.iso_wire.proofs.Bytes.{bytes_drop}
 use Rattle.iso_wire.proofs.ElementLaws.{value_taken}
 use Rattle.iso_wire.proofs.Orders.{numbers_of, Values}
 use Rattle.iso_wire.proofs.StopsMaps.{fault_is, HaltsAs}
-use Rattle.iso_wire.proofs.Readings.{end_is, size_read, short_by, bad_by, SizeRead}
+use Rattle.iso_wire.proofs.Readings.{count_is, end_is, size_read, short_by, bad_by, SizeRead}
 use Rattle.iso_wire.proofs.WalkPlaces.{front_ascends, fewer}
 use Rattle.iso_wire.proofs.WalkFronts.{halts_as}
 

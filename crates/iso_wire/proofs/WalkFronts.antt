@@ -15,7 +15,6 @@ use Rattle.iso_parts.specs.declared.bitmap.Bitmap.{Bitmap}
 use Rattle.iso_parts.specs.declared.fault.FieldFault.{FieldFault}
 use Rattle.iso_parts.specs.declared.spec.FieldSpec.{FieldSpec}
 use Rattle.iso_parts.specs.Numbers.{members}
-use Rattle.iso_parts.proofs.Judges.{count_fails}
 use Rattle.iso_table.specs.Layout.{Layout, row_at}
 use Rattle.iso_wire.specs.Reading.{◌>>=◌, type_at, primary_at, secondary_at, words_by, words_at}
 use Rattle.iso_wire.specs.Spelling.{AreBytes}
@@ -28,7 +27,7 @@ use Rattle.iso_wire.specs.declared.judging.ResumePoint.TheVariants as points
 use Rattle.iso_wire.proofs.Bytes.{bytes_take, bytes_drop}
 use Rattle.iso_wire.proofs.StopsMaps.{fault_at, HaltsAs, type_halts, primary_halts, secondary_halts}
 use Rattle.iso_wire.proofs.Wires.{Ascends, numbers_ascend}
-use Rattle.iso_wire.proofs.Readings.{words, lacks_by}
+use Rattle.iso_wire.proofs.Readings.{words, count_fails, lacks_by}
 use Rattle.iso_wire.proofs.WalkPlaces.{front_ascends, fewer, fewer_body}
 
 pub halts_as : (t : Layout) (b : List ℕ) (piece : Piece) (at : ℕ) (e : UnpackFault) → HaltsAs t piece at (drop at b) e → Passes t b piece at (Err e)

@@ -12,7 +12,6 @@ use Rattle.iso_parts.specs.PieceLaws.{PieceLaws}
 use Rattle.iso_parts.specs.Reading.{prefix_size, prefix_of}
 use Rattle.iso_parts.specs.declared.spec.FieldSpec.{FieldSpec}
 use Rattle.iso_parts.specs.Numbers.{members}
-use Rattle.iso_parts.proofs.Judges.{count_is}
 use Rattle.iso_table.specs.Layout.{Layout, row_at, AreGood}
 use Rattle.iso_wire.specs.Contents.{Contents}
 use Rattle.iso_wire.specs.Pieces.{StandsBefore, left_of}
@@ -33,7 +32,7 @@ use Rattle.iso_wire.proofs.StopsMaps.{type_taken}
 use Rattle.iso_wire.proofs.StopsNumbers.{is_split, some_is}
 use Rattle.iso_wire.proofs.Wires.{Ascends, numbers_ascend}
 use Rattle.iso_wire.proofs.WordLaws.{words_taken}
-use Rattle.iso_wire.proofs.Readings.{message_is, made, behind_maps, behind_type}
+use Rattle.iso_wire.proofs.Readings.{message_is, made, behind_maps, behind_type, count_is}
 
 -- ---- the numbers that are left
 

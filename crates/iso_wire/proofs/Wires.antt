@@ -2,7 +2,7 @@
 use Rattle.std.proofs.Common.{◌≡◌, ℕ, zero, suc, ◌+◌, ◌-◌, ◌*◌, ◌≤◌, ◌<◌, Bool, true, false, cond, eqb, leb, List, [], ◌∷◌, ◌++◌, length, take, drop, set, Option, Some, None, Result, Ok, Err, IfOk, refl, sym, ap, subst, ◌∙◌, append_assoc, arith, inl, inr}
 use Rattle.std.proofs.lemmas.Bool.{cases_eq, cond-true, cond-false, and_parts, leb-true, eqb-true}
 use Rattle.std.proofs.lemmas.Bool.Decides.{nat_tests}
-use Rattle.std.proofs.lemmas.List.{drop-drop, length-drop, length-take-le, append-nil, get_or-set_same, get_or-set_other}
+use Rattle.std.proofs.lemmas.List.{drop-drop, length-drop, length-take-le, get_or-set_same, get_or-set_other}
 use Rattle.iso_wire.specs.Viewing.{front_of, starts_of}
 use Rattle.iso_parts.specs.declared.spec.FieldSpec.{FieldSpec}
 use Rattle.iso_parts.specs.declared.encoding.Coding.{Coding}
@@ -21,9 +21,9 @@ use Rattle.iso_parts.specs.declared.bitmap.Bitmap.{Bitmap}
 use Rattle.iso_wire.specs.Elements.{value_in}
 use Rattle.iso_parts.specs.Numbers.{numbers}
 use Rattle.iso_wire.specs.Reading.{◌>>=◌, value_at}
-use Rattle.iso_wire.specs.Bodies.{longest_part, start_at, body_size_at, body_in, wire_of, wires_in, start_of, starts_in, IsBodyWithin, AreWithin, BeginsThere, wire_at, wires_at}
+use Rattle.iso_wire.specs.Bodies.{longest_part, start_at, body_size_at, body_in, wire_of, wires_in, start_of, starts_in, IsBodyWithin, AreWithin, wire_at, wires_at}
 use Rattle.iso_parts.specs.Numbers.{members}
-use Rattle.iso_parts.proofs.NumberLaws.{one_more, no_more, no_numbers}
+use Rattle.iso_wire.proofs.NumberLaws.{one_more, no_more, no_numbers}
 use Rattle.iso_wire.proofs.Loop.{with_front}
 use Rattle.iso_wire.proofs.Orders.{Values}
 
@@ -40,16 +40,6 @@ goes_on rows front old ns n at b first total is read so_far =
     sym (ap (λ (l : List ℕ). with_front front (wires_at rows l at b)) is
     ∙ ap (λ r. with_front front (r >>= behind rows ns n at b)) read
     ∙ regroup front (n, wire_at (row_at rows n) b first.1) (wires_at rows ns (at + first.1) (drop first.1 b))) ∙ so_far
-
-pub wires_end : (rows : List (Option FieldSpec)) (front : Values) (old : List ℕ) (at : ℕ) (b : List ℕ) (total : Result (Values × ℕ) UnpackFault) → old ≡ []
-    → with_front front (wires_at rows old at b) ≡ total → total ≡ Ok (front, at)
-wires_end rows front old at b total is so_far =
-    sym so_far ∙ ap (λ (l : List ℕ). with_front front (wires_at rows l at b)) is ∙ ap (λ (es : Values). Ok (es, at)) (append-nil front)
-
-pub wires_fail : (rows : List (Option FieldSpec)) (front : Values) (old ns : List ℕ) (n at : ℕ) (b : List ℕ) (e : UnpackFault) (total : Result (Values × ℕ) UnpackFault) → old ≡ n ∷ ns → value_at rows n at b ≡ Err e
-    → with_front front (wires_at rows old at b) ≡ total → total ≡ Err e
-wires_fail rows front old ns n at b e total is read so_far =
-    sym so_far ∙ ap (λ (l : List ℕ). with_front front (wires_at rows l at b)) is ∙ ap (λ r. with_front front (r >>= behind rows ns n at b)) read
 
 -- ---- numbers in ascending order
 
@@ -152,9 +142,6 @@ begun_next rows first b bodies new done n at start used w begun wires starts beg
     ∙ sym (append_assoc (starts_in bodies done) ((n, start) ∷ []) (starts_of rows (at + used) ws))
     ∙ ap (λ (l : List (ℕ × ℕ)). l ++ starts_of rows (at + used) ws) (sym starts)
 
-begun_all : (rows : List (Option FieldSpec)) (first : ℕ) (b : List ℕ) (bodies : Bodies) (done : List ℕ) (at : ℕ) → BegunAt rows first b bodies done at → BeginsThere rows first b bodies done
-begun_all rows first b bodies done at begun = sym (ap (starts_of rows first) (sym (append-nil (wires_in b bodies done))) ∙ begun [] ∙ append-nil (starts_in bodies done))
-
 -- the numbers that were done, and what holds of them and of those to come
 pub record BodiesFound (rows : List (Option FieldSpec)) (first : ℕ) (b : List ℕ) (bodies : Bodies) (old ns : List ℕ) (at : ℕ) (total : Result (Values × ℕ) UnpackFault) : Type 0 where
   pub done : List ℕ
@@ -213,15 +200,6 @@ found_next rows first b bodies old ns rest v n at body used start size total h i
       within = within_append (at + used) new h.done n (within_more at (at + used) new h.done (omega arith) (within_stay at bodies h.done n start size below h.within)) (omega (arith, new_start, new_size, begins, many, inner));
       begun = begun_next rows first b bodies new h.done n at start used w h.begun wires found (begins ∙ ap (λ (k : ℕ). at + k) front) (omega (arith, long, begins, front, inner));
     }
-
-pub found_all : (rows : List (Option FieldSpec)) (first : ℕ) (b : List ℕ) (bodies : Bodies) (old ns : List ℕ) (at : ℕ) (total : Result (Values × ℕ) UnpackFault) → BodiesFound rows first b bodies old ns at total → ns ≡ []
-    → (total ≡ Ok (wires_in b bodies old, at)) × AreWithin at bodies old × BeginsThere rows first b bodies old
-found_all rows first b bodies old ns at total h none =
-    let all : h.done ≡ old = sym (append-nil h.done) ∙ ap (λ (l : List ℕ). h.done ++ l) (sym none) ∙ h.numbers in (
-      wires_end rows (wires_in b bodies h.done) ns at (drop at b) total none h.read ∙ ap (λ (l : List ℕ). Ok (wires_in b bodies l, at)) all,
-      subst (AreWithin at bodies) all h.within,
-      subst (BeginsThere rows first b bodies) all (begun_all rows first b bodies h.done at h.begun),
-    )
 
 -- ---- the body of one element
 
@@ -287,9 +265,6 @@ set_body set b bodies k elements is = let there = elements k is in body_there b 
 
 pub set_within : (set : Bitmap) (size : ℕ) (bodies : Bodies) (k : ℕ) → AreElements (contains set) → contains set k ≡ true → AreWithin size bodies (members set) → IsBodyWithin size bodies k
 set_within set size bodies k elements is h = let there = elements k is in within_there size bodies (in_words set.primary set.secondary) 127 2 k there.0 (omega (arith, there.1)) is h
-
-pub set_few : (set : Bitmap) (k : ℕ) → AreElements (contains set) → contains set k ≡ true → k ≤ 128
-set_few set k elements is = (elements k is).1
 
 pub set_absent : (set : Bitmap) (b : List ℕ) (bodies : Bodies) (k : ℕ) → contains set k ≡ false → value_in (wires_in b bodies (members set)) k ≡ None
 set_absent set b bodies k is = body_absent b bodies (in_words set.primary set.secondary) 127 2 k (λ low high there. let both : true ≡ false = sym there ∙ is in cc)

@@ -1,11 +1,12 @@
 -- Bitmaps that are read as words are those that the bytes spell, and those that are spelled are read.
-use Rattle.std.proofs.Common.{◌≡◌, ℕ, ◌+◌, ◌-◌, ◌^◌, ◌<◌, ◌≤◌, Bool, true, false, cond, eqb, ltb, is_some, List, ◌++◌, length, take, drop, Option, Some, None, Result, Ok, refl, sym, ap, subst, ◌∙◌, append_assoc, arith, inl, inr}
+use Rattle.std.proofs.Common.{◌≡◌, ℕ, ◌+◌, ◌-◌, ◌/◌, ◌%◌, ◌^◌, ◌<◌, ◌≤◌, Bool, true, false, cond, eqb, ltb, is_some, List, ◌++◌, length, take, drop, Option, Some, None, Result, Ok, refl, sym, ap, subst, ◌∙◌, append_assoc, arith, inl, inr}
 use Rattle.std.specs.Int.{bit_at}
 use Rattle.std.proofs.lemmas.Bool.{cases_eq, cases_lt, ltb-false, ltb-true, le-ltb, lt-ltb, cond-true, cond-false}
 use Rattle.std.proofs.lemmas.Bool.Decides.{nat_tests}
 use Rattle.std.proofs.lemmas.Nat.Bits.{bit_at-zero}
 use Rattle.std.proofs.lemmas.List.{take_at, length-append, length-take, length-drop, take-append-drop, drop-append-le, take-take, drop-take}
 use Rattle.iso_parts.specs.declared.bitmap.BitmapCoding.{BitmapCoding}
+use Rattle.iso_parts.specs.declared.bitmap.BitmapCoding.TheVariants.{Raw, Hex}
 use Rattle.iso_parts.specs.Bitmap.{BitsIn, map_size, in_words, primary_bits, secondary_bits, One, Two, Bitmaps}
 use Rattle.iso_parts.specs.BitmapReading.{top, word_in}
 use Rattle.iso_parts.specs.MapLaws.{MapLaws, has_bit}
@@ -13,7 +14,6 @@ use Rattle.iso_wire.specs.declared.fault.UnpackFault.{UnpackFault}
 use Rattle.iso_wire.specs.declared.fault.UnpackCause.TheVariants.{Short, ThirdBitmap}
 use Rattle.iso_table.specs.Layout.{Layout, row_at}
 use Rattle.iso_parts.specs.Numbers.{numbers_in}
-use Rattle.iso_parts.proofs.BitmapLaws.{small_first, large_first, first_small, first_large, bits_agree, one_first, one_none, two_second}
 use Rattle.iso_wire.specs.Numbers.{unknown}
 use Rattle.iso_wire.specs.Reading.{◌>>=◌, halt, word_by, word_at, known_by, primary_at, secondary_known, secondary_at, words_by, words_at}
 use Rattle.iso_wire.specs.Spelling.{AreBytes}
@@ -26,6 +26,31 @@ abbrev HasBits : ℕ → (ℕ → Bool) → Type 0
 HasBits w set = (k : ℕ) → 0 < k → k ≤ 64 → has_bit w k ≡ set k
 
 -- ---- a word's first bit
+
+pub small_first : (w : ℕ) → w < top → eqb (bit_at w 63) 1 ≡ false
+small_first w lt = let e : w / 2 ^ 63 % 2 ≡ 0 = omega arith in ap (λ (n : ℕ). eqb n 1) e
+
+pub large_first : (w : ℕ) → w < 2 ^ 64 → top ≤ w → eqb (bit_at w 63) 1 ≡ true
+large_first w fits le = let e : w / 2 ^ 63 % 2 ≡ 1 = omega arith in ap (λ (n : ℕ). eqb n 1) e
+
+pub first_small : (w : ℕ) → w < 2 ^ 64 → eqb (bit_at w 63) 1 ≡ false → w < top
+first_small w fits h =
+    elim (cases_lt w top) [
+      | inl lt ↦ lt
+      | inr le ↦ absurd (let f : true ≡ false = sym (large_first w fits le) ∙ h in cc)
+    ]
+
+pub first_large : (w : ℕ) → eqb (bit_at w 63) 1 ≡ true → top ≤ w
+first_large w h =
+    elim (cases_lt w top) [
+      | inl lt ↦ absurd (let f : true ≡ false = sym h ∙ small_first w lt in cc)
+      | inr le ↦ le
+    ]
+
+-- a bitmap of one set is a bitmap of another with the same numbers
+pub bits_agree : (c : BitmapCoding) (set other : ℕ → Bool) (b : List ℕ) → ((k : ℕ) → 0 < k → k ≤ 64 → set k ≡ other k) → BitsIn c set b → BitsIn c other b
+bits_agree Raw set other b agrees bits = record { eight = bits.eight; bit = λ k low high. bits.bit k low high ∙ agrees k low high }
+bits_agree Hex set other b agrees bits = (bits.0, bits.1, record { eight = bits.2.eight; bit = λ k low high. bits.2.bit k low high ∙ agrees k low high })
 
 -- ---- words and sets
 
@@ -151,12 +176,25 @@ module _ (laws : MapLaws) where
 
 -- ---- what is read is spelled
 
+one_first : (w k : ℕ) → w < top → 0 < k → k ≤ 64 → eqb (bit_at w (64 - k)) 1 ≡ primary_bits false (in_words w 0) k
+one_first w k small low high =
+    elim (cases_eq k 1) [
+      | inl e ↦ let s = small_first w small in rw e s
+      | inr ne ↦ grind (arith, nat_tests)
+    ]
+
+pub one_none : (w k : ℕ) → 64 < k → k ≤ 128 → in_words w 0 k ≡ false
+one_none w k low high = let z = bit_at-zero (128 - k) in grind (arith, nat_tests)
+
 pub two_first : (w v k : ℕ) → w < 2 ^ 64 → top ≤ w → 0 < k → k ≤ 64 → eqb (bit_at w (64 - k)) 1 ≡ primary_bits true (in_words w v) k
 two_first w v k fits large low high =
     elim (cases_eq k 1) [
       | inl e ↦ let s = large_first w fits large in rw e s
       | inr ne ↦ grind (arith, nat_tests)
     ]
+
+two_second : (w v k : ℕ) → 0 < k → k ≤ 64 → eqb (bit_at v (64 - k)) 1 ≡ secondary_bits (in_words w v) k
+two_second w v k low high = let e : 128 - (64 + k) ≡ 64 - k = omega arith in grind (arith, nat_tests)
 
 -- a whole bitmap was read
 record WordTaken (c : BitmapCoding) (b : List ℕ) (w : ℕ) : Type 0 where

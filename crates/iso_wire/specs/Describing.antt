@@ -15,7 +15,7 @@ use Rattle.iso_wire.specs.Masking.{shown_front, shown_end}
 
 -- a digit without a meaning
 abbrev pub reserved_word : ℕ → List ℕ
-reserved_word d = codes "Reserved(" ++ (48 + d) ∷ 41 ∷ []
+reserved_word d = codes "Reserved(" ++ (48 + d) ∷ codes ")"
 
 -- the edition of the standard, in a word
 unfoldable pub version_word : ℕ → List ℕ
@@ -62,9 +62,9 @@ origin_word d =
 -- the four digits, and the word of each
 abbrev pub type_line : ℕ → List ℕ
 type_line n =
-    codes "MTI=" ++ four_digits_of Ascii n ++ 32 ∷ version_word (n / 1000) ++ 32
-    ∷ class_word (n / 100 % 10) ++ 32 ∷ function_word (n / 10 % 10) ++ 32 ∷ origin_word (n % 10)
-    ++ 10 ∷ []
+    codes "MTI=" ++ four_digits_of Ascii n ++ codes " " ++ version_word (n / 1000) ++ codes " "
+    ++ class_word (n / 100 % 10) ++ codes " " ++ function_word (n / 10 % 10) ++ codes " "
+    ++ origin_word (n % 10) ++ codes "\n"
 
 -- ---- an element
 
@@ -92,8 +92,8 @@ shown_text is_clear class n v = if is_clear then clear_text class v else value_t
 
 -- the line of an element: its number, and what is shown of its value
 abbrev pub element_line : Bool → List (Option FieldSpec) → ℕ → List ℕ → List ℕ
-element_line is_clear rows n v = codes "DE"
-    ++ (decimal 3 n ++ (61 ∷ shown_text is_clear (class_by (row_at rows n)) n v ++ 10 ∷ []))
+element_line is_clear rows n v = codes "DE" ++ (decimal 3 n
+    ++ (codes "=" ++ (shown_text is_clear (class_by (row_at rows n)) n v ++ codes "\n")))
 
 -- the lines of elements, in their order
 abbrev pub element_lines : Bool → List (Option FieldSpec) → List (ℕ × List ℕ) → List ℕ
@@ -118,7 +118,7 @@ IsDecimal v text = (d : ℕ) × (text ≡ decimal d v) × (1 ≤ d) × (v < 10 ^
 abbrev pub IsUsedLine : ℕ → ℕ → List ℕ → Type 0
 IsUsedLine used total line =
     (first : List ℕ) × (second : List ℕ) × IsDecimal used first × IsDecimal total second
-    × (line ≡ codes "USED=" ++ (first ++ (47 ∷ second ++ 10 ∷ [])))
+    × (line ≡ codes "USED=" ++ (first ++ (codes "/" ++ (second ++ codes "\n"))))
 
 -- how many bytes a message took, and of how many
 pub record UsedBytes : Type 0 where

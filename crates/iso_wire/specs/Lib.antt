@@ -1,6 +1,7 @@
 pub mod Contents
 pub mod Packing
 pub mod Decimal
+pub mod DecimalLaws
 pub mod Elements
 pub mod LookUps
 pub mod Ends
@@ -14,12 +15,14 @@ pub mod Beginning
 pub mod Appending
 pub mod Runs
 pub mod Framing
+pub mod FrameLaws
 pub mod ReadingLaws
 pub mod Stops
 pub mod Judging
 pub mod Unpacker
 pub mod Taking
 pub mod Viewing
+pub mod ViewLaws
 pub mod Bodies
 pub mod FaultNames
 pub mod FaultNumbers

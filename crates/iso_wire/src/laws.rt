@@ -1,12 +1,15 @@
 //! What holds of every message and every stream: functions that do nothing, and whose contracts are laws.
 
 ghost use Rattle.std.specs.Prelude.{ℕ, List};
+ghost use Rattle.iso_wire.specs.DecimalLaws.{DecimalLaws};
 ghost use Rattle.iso_wire.specs.Ends.{elements_of};
+ghost use Rattle.iso_wire.specs.FrameLaws.{FrameLaws};
 ghost use Rattle.iso_wire.specs.Framing.{BadIsNoFrame, BadStays, CutNeedsMore, FirstOfSplit, SplitsBehind, SplitsOnce, SplitsSomehow};
 ghost use Rattle.iso_wire.specs.OneSpelling.{AreOfBytes, HasPlain, PlainOnce, WellFormed};
 ghost use Rattle.iso_wire.specs.ReadingLaws.{ReadingStays, ReadsSpellings};
 ghost use Rattle.iso_wire.specs.Spelling.{AreBytes};
 ghost use Rattle.iso_wire.specs.StopsLaws.{NeverBoth, SpellsOrStops, StopsAsRead, StopsOnce, StopsStay};
+ghost use Rattle.iso_wire.specs.ViewLaws.{ViewLaws};
 
 use crate::message::Message;
 
@@ -90,4 +93,25 @@ pub fn splits_once()
     ensures stays { BadStays }
     // A header and fewer bytes than it counts are no frame yet and no fault: more is wanted.
     ensures cut { CutNeedsMore }
+{}
+
+/// How numbers stand to the digits that write them.
+pub fn decimals()
+    // A number is written in exactly as many digits as there are places, and where these are
+    // enough they tell that number. At most so many digits tell a number below that power of ten.
+    ensures { DecimalLaws }
+{}
+
+/// How the frames of bodies stand to those of the bodies before them.
+pub fn frames()
+    // A header takes as many bytes, whatever it counts. The frames of bodies that follow others
+    // come behind theirs, and all fit where both do.
+    ensures { FrameLaws }
+{}
+
+/// How the bodies of a message that is viewed stand to its elements.
+pub fn views()
+    // An element whose body is there has a value, and its part lies where that body starts, behind
+    // its length. One without a body has none.
+    ensures { ViewLaws }
 {}

@@ -1,5 +1,5 @@
 -- Documents whose bytes are known.
-use Rattle.std.proofs.Common.{Result, Ok, Err, IfOk, IfErr, OnOk, ◌≡◌, ℕ, ◌≤◌, ◌<◌, Bool, true, false, List, [], ◌++◌, length, take, Option, Some, None, option_map, IfSome, MatchBool, sym, ap, subst, ◌∙◌, arith, min}
+use Rattle.std.proofs.Common.{Result, Ok, Err, IfOk, IfErr, OnOk, ◌≡◌, ℕ, ◌≤◌, ◌<◌, List, [], ◌++◌, length, take, Option, Some, None, option_map, IfSome, sym, ap, subst, ◌∙◌, arith, min}
 use Rattle.std.proofs.lemmas.List.{length-take, take_min}
 use Rattle.std.proofs.Math.Seq.{take-length}
 use Rattle.std.specs.Prelude.{Vec}
@@ -28,17 +28,6 @@ known_whole (Some held) bytes same short = sym (same ∙ read_of-short held (sub
 pub known_long : (known : Option (List ℕ)) (bytes : List ℕ) → IfSome known (λ held. bytes ≡ read_of held) → 1048576 < length bytes → IfSome known (λ held. 1048576 < length held)
 known_long None bytes same long = tt
 known_long (Some held) bytes same long = omega (arith, long, ap length same, length-take 1048577 held)
-
--- what follows from what holds of known bytes
-pub known_map : (known : Option (List ℕ)) (P Q : List ℕ → Type 0) → ((l : List ℕ) → P l → Q l) → IfSome known P → IfSome known Q
-known_map None P Q f h = tt
-known_map (Some held) P Q f h = f held h
-
--- and of the bytes of what a word names
-pub held_map : (is_input : Bool) (input file : Option (List ℕ)) (P Q : List ℕ → Type 0) → ((l : List ℕ) → P l → Q l)
-    → MatchBool is_input (IfSome input P) (IfSome file P) → MatchBool is_input (IfSome input Q) (IfSome file Q)
-held_map true input file P Q f h = known_map input P Q f h
-held_map false input file P Q f h = known_map file P Q f h
 
 -- a document that was read and isn't too long is kept as it is
 pub kept_whole : {A E : Type 0} (r : Result (Vec ℕ A) E) (text : Vec ℕ A) (known : Option (List ℕ)) → IfSome known (λ held. text.items ≡ read_of held)

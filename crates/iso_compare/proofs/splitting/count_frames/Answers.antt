@@ -8,4 +8,4 @@ pub loop-used-preserved : goal.loop-used-preserved
 loop-used-preserved c =
     let front : AnswersFront c.args.header c.loop-used.rest.now (Ok (Got c.in-Ok-Got.field-0-0 c.in-Ok-Got.used)) =
     subst (λ f. AnswersFront c.args.header c.loop-used.rest.now (Ok f)) c.in-Ok-Got.field-0-is c.in-Ok-Got.ensures.front in
-    one_counted _ _ _ c.in-Ok-Got.field-0-0.now _ c.in-Ok-Got.used _ c.loop-used.invariant front c.split_at.ensures.back
+    one_counted c.frames.ensures _ _ _ c.in-Ok-Got.field-0-0.now _ c.in-Ok-Got.used _ c.loop-used.invariant front c.split_at.ensures.back

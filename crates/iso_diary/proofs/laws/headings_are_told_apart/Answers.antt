@@ -2,4 +2,4 @@ use Rattle.iso_diary.proofs.Headings.{told_apart}
 use Rattle.iso_diary.proofs.laws.headings_are_told_apart.Goals as goal
 
 pub returns : goal.returns
-returns c = told_apart
+returns c = told_apart c.decimals.ensures c.columns.ensures

@@ -10,6 +10,6 @@ returns-in-Ok-clause-opened g c = λ clean only.
     let l = c.in-Ok.loaded in
     record {
       ready = is;
-      held = sym (all_synced g.D.Disk.seen g.D.Disk.may_leave g.D.Disk.is_usable c.load.new.disk l.slots l.count is.log_is) ∙ ap diary_notes (e.records clean only) ∙ sym (e.notes clean only);
-      none = none_waits g.D.Disk.seen g.D.Disk.may_leave g.D.Disk.is_usable c.load.new.disk l.slots l.count is.log_is;
+      held = sym (all_synced c.files.ensures g.D.Disk.seen g.D.Disk.may_leave g.D.Disk.is_usable c.load.new.disk l.slots l.count is.log_is) ∙ ap diary_notes (e.records clean only) ∙ sym (e.notes clean only);
+      none = none_waits c.files.ensures g.D.Disk.seen g.D.Disk.may_leave g.D.Disk.is_usable c.load.new.disk l.slots l.count is.log_is;
     }

@@ -1,7 +1,7 @@
 use Rattle.std.proofs.Common.{◌≡◌, ◌≤◌, ◌-◌, ℕ, List}
 use Rattle.std.specs.Prelude.{IsTrue}
 use Rattle.iso_log.specs.Log.{IsFile}
-use Rattle.iso_log.proofs.Behind.{behind}
+use Rattle.iso_log.specs.Headed.{behind}
 use Rattle.iso_diary.specs.Notes.{notes_of}
 use Rattle.iso_diary.specs.Kept.{AreLines}
 use Rattle.iso_diary.proofs.scanning.scan.Given as goal

@@ -9,6 +9,6 @@ loop-place-preserved c =
     let piece = c.args.piece.now in
     let bytes = c.record_at-record.result in
     record {
-      notes = one_noted c.args.notes.now.items l.notes.items c.scan_record.new.notes.items l.place piece bytes c.record_at-record.ensures l.invariant.notes (r.more good);
-      read = one_read c.args.first l.place piece bytes c.record_at-record.ensures l.invariant.read (r.read good);
+      notes = one_noted c.slots.ensures c.args.notes.now.items l.notes.items c.scan_record.new.notes.items l.place piece bytes c.record_at-record.ensures l.invariant.notes (r.more good);
+      read = one_read c.slots.ensures c.args.first l.place piece bytes c.record_at-record.ensures l.invariant.read (r.read good);
     }

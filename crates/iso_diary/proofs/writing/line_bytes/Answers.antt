@@ -1,7 +1,7 @@
 use Rattle.std.proofs.Common.{◌≡◌, ◌∙◌, ◌++◌, List, ℕ, arith, sym, ap}
 use Rattle.std.proofs.lemmas.List.{take_all}
 use Rattle.iso_log.specs.Slots.{is_whole}
-use Rattle.iso_diary.specs.Line.{body, letter, tail, line_bytes, IsLine}
+use Rattle.iso_diary.specs.Line.{body, tail, line_bytes, IsLine}
 use Rattle.iso_diary.proofs.writing.line_bytes.Goals as goal
 use Rattle.iso_diary.proofs.writing.line_bytes.Goals.{After-put_tail}
 

@@ -5,7 +5,7 @@ use Rattle.iso_drive.specs.declared.made.Made.{Made}
 use Rattle.iso_drive.specs.Board.{IsBoard}
 use Rattle.iso_drive.specs.Made.{IsTabled}
 use Rattle.iso_drive.proofs.Boarded.{board-asked}
-use Rattle.iso_waits.proofs.Waits.{times}
+use Rattle.iso_waits.specs.Waits.{times}
 use Rattle.iso_drive.proofs.board.go_through.Goals as goal
 
 pub returns-in-TimedOut-clause-board : goal.returns-in-TimedOut-clause-board

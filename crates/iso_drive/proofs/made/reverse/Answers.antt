@@ -3,10 +3,9 @@ use Rattle.std.proofs.lemmas.List.{with_items_is}
 use Rattle.std.specs.Vec.{with_items}
 use Rattle.iso_acquirer.specs.declared.slot.Stage.TheVariants as phase
 use Rattle.iso_acquirer.specs.Acquirer.{slots_at_stage, next_reversal}
-use Rattle.iso_acquirer.proofs.Numbered.{length-changed}
 use Rattle.iso_drive.specs.declared.made.Made.{Made}
 use Rattle.iso_drive.specs.Made.{IsTabled}
-use Rattle.iso_drive.proofs.Tabled.{made-length, tabled-reversed}
+use Rattle.iso_drive.proofs.Tabled.{length-changed, made-length, tabled-reversed}
 use Rattle.iso_drive.proofs.made.reverse.Goals as goal
 
 pub returns : goal.returns

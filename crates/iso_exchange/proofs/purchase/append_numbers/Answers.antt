@@ -6,7 +6,7 @@ use Rattle.iso_exchange.proofs.purchase.append_numbers.Goals as goal
 
 pub returns-then-are_packed : goal.returns-then-are_packed
 returns-then-are_packed c =
-    four-added c.parts.ensures c.args.table.now.rows c.are_packed.ensures.good (c.are_packed.ensures.packed c.if-are_packed.true) c.args.amount c.args.key.now c.args.out.now.items
+    four-added c.parts.ensures c.decimals.ensures c.args.table.now.rows c.are_packed.ensures.good (c.are_packed.ensures.packed c.if-are_packed.true) c.args.amount c.args.key.now c.args.out.now.items
     c.append_at_once.new.out.items c.in_ok-append_at_once.ensures
 
 pub returns : goal.returns

@@ -1,8 +1,8 @@
 use Rattle.std.proofs.Common.{◌≡◌, ◌++◌, ◌∷◌, [], arith, refl}
 use Rattle.std.specs.List.{flat_map}
+use Rattle.iso_wire.specs.Decimal.{decimal}
 use Rattle.iso_wire.specs.Spelling.{Parts, plain_of}
 use Rattle.iso_order.specs.Requests.{account_number, acquirer_code}
-use Rattle.iso_order.proofs.Decimals.{acquirer-own, few-digits}
 use Rattle.iso_exchange.specs.Purchase.{purchase_elements, four_elements, AddsPart, AddsParts}
 use Rattle.iso_exchange.proofs.Purchases.{parts-more, parts-written, parts-spelled, on-ok}
 use Rattle.iso_exchange.proofs.purchase.append_parts.Goals as goal
@@ -12,12 +12,13 @@ account : (c : goal.After-append_part) → AddsPart c.args.table.now.rows 2 (acc
 account c = rw (← c.len-len.ensures.value, ← c.digits-account.ensures.value) c.in_ok-append_digits.ensures
 
 -- the acquirer's number in its own digits
-acquirer : (c : goal.After-append_part) → AddsPart c.args.table.now.rows 32 (acquirer_code c.args.key.now.acquirer) c.append_numbers.new.out.items c.append_digits-2.new.out.items
-acquirer c =
-    let digits = c.digits_of-digits.result in
+own : (c : goal.After-append_part) → acquirer_code c.args.key.now.acquirer ≡ decimal c.digits_of-digits.result c.args.key.now.acquirer
+own c =
     let facts = c.digits_of-digits.ensures in
-    let few = few-digits digits c.args.key.now.acquirer c.requires.few facts.least in
-    rw (acquirer-own digits c.args.key.now.acquirer facts.some few facts.fits facts.least) c.in_ok-append_digits-2.ensures
+    (c.acquirers_in_own_digits.ensures c.digits_of-digits.result c.args.key.now.acquirer facts.some c.requires.few facts.fits facts.least).1
+
+acquirer : (c : goal.After-append_part) → AddsPart c.args.table.now.rows 32 (acquirer_code c.args.key.now.acquirer) c.append_numbers.new.out.items c.append_digits-2.new.out.items
+acquirer c = rw (own c) c.in_ok-append_digits-2.ensures
 
 -- the parts, one behind the other
 parts : (c : goal.After-append_part) → AddsPart c.args.table.now.rows 49 c.args.money.now.currency c.append_digits-2.new.out.items c.append_part.new.out.items
@@ -32,8 +33,9 @@ parts c last = (
 
 pub append_digits-requires-2-clause-few : goal.append_digits-requires-2-clause-few
 append_digits-requires-2-clause-few c =
-    let few = few-digits c.digits_of-digits.result c.args.key.now.acquirer c.requires.few c.digits_of-digits.ensures.least in
-    omega (arith, few)
+    let facts = c.digits_of-digits.ensures in
+    let own = c.acquirers_in_own_digits.ensures c.digits_of-digits.result c.args.key.now.acquirer facts.some c.requires.few facts.fits facts.least in
+    omega (arith, own.0)
 
 pub returns-clause-written : goal.returns-clause-written
 returns-clause-written c =

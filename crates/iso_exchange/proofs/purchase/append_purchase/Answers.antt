@@ -6,11 +6,10 @@ use Rattle.iso_parts.specs.Mti.{mti_number}
 use Rattle.iso_parts.specs.declared.bitmap.BitmapCoding.{BitmapCoding}
 use Rattle.iso_parts.specs.declared.digits.Digits.{Digits}
 use Rattle.iso_wire.specs.Spelling.{Parts, PlainSpelling, plain_of}
-use Rattle.iso_wire.proofs.Packs.{three_pieces}
 use Rattle.iso_order.specs.declared.key.TxKey.{TxKey}
 use Rattle.iso_order.specs.Requests.{request}
 use Rattle.iso_exchange.specs.Purchase.{purchase_elements}
-use Rattle.iso_exchange.proofs.Purchases.{on-both, purchase-small, purchase-spelled}
+use Rattle.iso_exchange.proofs.Purchases.{on-both, purchase-small, purchase-spelled, three-pieces}
 use Rattle.iso_exchange.proofs.purchase.append_purchase.Goals as goal
 
 pub type_of-mti-requires : goal.type_of-mti-requires
@@ -47,7 +46,7 @@ returns c =
     subst (λ (k : TxKey). Parts rows (purchase_elements k money) (flat_map (plain_of rows) (purchase_elements k money))) c.key-key.ensures.value spelled in (
       bytes,
       purchase-spelled t o money set maps (c.requests_are_well_formed.ensures o c.key-key.ensures.valid) c.requires version (c.numbers.ensures o.key money) plain parts,
-      three_pieces old start c.append_type.new.out.items c.append.new.out.items new (four_digits_of t.mti o.key.base) maps (flat_map (plain_of rows) (purchase_elements o.key money))
+      three-pieces old start c.append_type.new.out.items c.append.new.out.items new (four_digits_of t.mti o.key.base) maps (flat_map (plain_of rows) (purchase_elements o.key money))
           c.in_ok-reserve.ensures.items head c.in_ok-append.ensures.ok.2 tail,
     ))
     c.append_parts.ensures.written c.append_parts.ensures.spelled

@@ -10,13 +10,13 @@ use Rattle.iso_exchange.proofs.viewing.read_text.Goals as goal
 pub returns-in_default : goal.returns-in_default
 returns-in_default c = record {
   text = λ m size read.
-      c.clear.ensures.items ∙ no-text c.args.table.now c.args.message.now c.args.body.now c.requires.viewed c.requires.all c.args.n m size read c.in_default.ensures;
+      c.clear.ensures.items ∙ no-text c.args.table.now c.args.message.now c.args.body.now c.requires.viewed c.requires.all c.views.ensures c.args.n m size read c.in_default.ensures;
 }
 
 pub returns-in_default-row : goal.returns-in_default-row
 returns-in_default-row c = record {
   text = λ m size read.
-      absurd (row-there c.args.table.now c.args.message.now c.args.body.now c.requires.viewed c.requires.all c.args.n c.in-Some.place.start c.in-Some.ensures.3 (sym c.in_default-row.ensures.row));
+      absurd (row-there c.args.table.now c.args.message.now c.args.body.now c.requires.viewed c.requires.all c.views.ensures c.args.n c.in-Some.place.start c.in-Some.ensures.3 (sym c.in_default-row.ensures.row));
 }
 
 pub decode_front-requires : goal.decode_front-requires
@@ -35,7 +35,7 @@ returns c =
       text = on-ok ((v : List ℕ) (used : ℕ) → part_at row c.split_at.result.1.now ≡ got v used → new ≡ v)
           ((m : Contents) (size : ℕ) → message_at t b ≡ whole m size → new ≡ text m c.args.n) c.decode_front.result
           (λ told m size read.
-          let found = text-read t c.args.message.now b c.requires.viewed c.requires.all c.parts.ensures c.row.ensures.good c.args.n start row m size read c.in-Some.ensures.3 (sym c.in-Some-row.ensures.row) in
+          let found = text-read t c.args.message.now b c.requires.viewed c.requires.all c.parts.ensures c.views.ensures c.row.ensures.good c.args.n start row m size read c.in-Some.ensures.3 (sym c.in-Some-row.ensures.row) in
           told (text m c.args.n) found.0 (ap (part_at row) place ∙ found.1))
           c.decode_front.ensures.value;
     }

@@ -26,6 +26,6 @@ frames-preserved g c =
     let front = subst (λ (f : Framed). AnswersFront c.header.result (take (length bytes - used) (drop used bytes)) (Ok f)) c.in-Ok-Got.field-0-is c.in-Ok-Got.ensures.front in
     let here = subst (λ (h : Header). Begins h (take (length bytes - used) (drop used bytes)) body size) c.header.ensures front in
     let begins = subst (λ (l : List ℕ). Begins guard.header l body size) rest here in
-    let so = next_frame guard c.args.host.now bytes c.args.waiting.now.items c.frames.host c.answer_guarded.new.host used size body c.frames.waiting.items
+    let so = next_frame guard c.args.host.now bytes c.args.waiting.now.items c.frames-2.ensures c.frames.host c.answer_guarded.new.host used size body c.frames.waiting.items
     c.answer_guarded.new.waiting.items c.one_journal.ensures.more c.frames.invariant.so_far begins c.in-Ok.ensures.answered in
     record { within = so.within; so_far = so }

@@ -1,8 +1,7 @@
 use Rattle.std.proofs.Common.{◌≡◌, ◌+◌, ◌∙◌, ℕ, length, ap, [], Option}
 use Rattle.iso_wire.specs.declared.fault.UnpackFault.{UnpackFault}
 use Rattle.iso_wire.specs.Unpacker.{Feeding}
-use Rattle.iso_wire.proofs.Bytes.{bytes_append}
-use Rattle.iso_host.proofs.GatherLemmas.{emptied, holds_behind, holds_fault}
+use Rattle.iso_host.proofs.GatherLemmas.{bytes_append, emptied, holds_behind, holds_fault}
 use Rattle.iso_host.proofs.gathering.feed_piece.Goals as goal
 
 pub returns-in-Ok-Done-clause-holds : goal.returns-in-Ok-Done-clause-holds

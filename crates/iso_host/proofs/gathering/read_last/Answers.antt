@@ -1,6 +1,5 @@
 use Rattle.std.proofs.Common.{◌≡◌, ◌≢◌, ◌++◌, length, length-append, arith}
-use Rattle.iso_wire.proofs.Bytes.{bytes_append}
-use Rattle.iso_host.proofs.GatherLemmas.{reads_behind, reads_whole}
+use Rattle.iso_host.proofs.GatherLemmas.{bytes_append, reads_behind, reads_whole}
 use Rattle.iso_host.proofs.gathering.read_last.Goals as goal
 
 pub returns-then-used-before-clause-read : goal.returns-then-used-before-clause-read

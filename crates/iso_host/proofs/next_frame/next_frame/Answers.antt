@@ -1,4 +1,4 @@
-use Rattle.std.proofs.Common.{◌≡◌, ◌∙◌, Bool, true, false, Some, None, refl, ap, arith}
+use Rattle.std.proofs.Common.{◌≡◌, ◌∙◌, Bool, Some, None, refl, ap, arith}
 use Rattle.std.proofs.KnownBytes.{Consumes-kept}
 use Rattle.iso_host.specs.Beginning.{held_of}
 use Rattle.iso_host.specs.Stepping.{handled_at, taken_as}

@@ -74,7 +74,7 @@ returns-in_err-next_frame-clause-leaves g c =
     let laws = c.splits_once.ensures in
     let before = taking (reading c.frames.line.window (stream (g.R.Inlet.remaining c.frames.reader) (g.R.Inlet.counts c.frames.reader)) c.frames.left) (replying c.frames.issuer []) in
     let after = taking (reading c.next_frame.new.line.window (stream (g.R.Inlet.remaining c.next_frame.new.reader) (g.R.Inlet.counts c.next_frame.new.reader)) c.next_frame.new.left) (replying c.next_frame.new.issuer []) in
-    rw (exit.1, exit.2) (stop_before _ _ _ _ c.frames.invariant.going c.firsts_go_on.ensures laws.bad laws.stays before after c.in_err-next_frame.field-0.0 c.in_err-next_frame.ensures.bytes refl refl)
+    rw (exit.1, exit.2) (stop_before _ _ _ _ c.frames.invariant.going c.firsts_go_on.ensures c.frames-2.ensures laws.bad laws.stays before after c.in_err-next_frame.field-0.0 c.in_err-next_frame.ensures.bytes refl refl)
 
 pub returns-then-not-branch-clause-leaves : goal.returns-then-not-branch-clause-leaves
 returns-then-not-branch-clause-leaves g c =
@@ -88,7 +88,7 @@ returns-in_err-write_answer-clause-leaves g c =
     let frame = rw c.if-not-branch.false at c.in_ok-next_frame.ensures.bytes in
     let e = c.in_err-write_answer.ensures in
     let part = rw c.deref.ensures.value at e.written in
-    rw (exit.1, exit.2) (stop_at _ _ _ _ so.going c.firsts_go_on.ensures (Unit {0}) _ _ _ _ _ _ frame.0 c.in_err-write_answer.field-0.0 frame.1 frame.2
+    rw (exit.1, exit.2) (stop_at _ _ _ _ so.going c.firsts_go_on.ensures c.frames-2.ensures (Unit {0}) _ _ _ _ _ _ frame.0 c.in_err-write_answer.field-0.0 frame.1 frame.2
     (written_part _ _ _ _ _ _ c.clear.ensures.items frame.3 part) e.spent)
 
 pub returns-in_err-write_answer-clause-flushed : goal.returns-in_err-write_answer-clause-flushed
@@ -98,7 +98,7 @@ returns-in_err-write_answer-clause-flushed g c =
     let frame = rw c.if-not-branch.false at c.in_ok-next_frame.ensures.bytes in
     let e = c.in_err-write_answer.ensures in
     let part = rw c.deref.ensures.value at e.written in
-    rw (exit.1, exit.2) (waits_at _ _ _ _ so.going c.firsts_go_on.ensures (Unit {0}) _ _ _ _ _ _ frame.0 c.in_err-write_answer.field-0.0 frame.1 frame.2
+    rw (exit.1, exit.2) (waits_at _ _ _ _ so.going c.firsts_go_on.ensures c.frames-2.ensures (Unit {0}) _ _ _ _ _ _ frame.0 c.in_err-write_answer.field-0.0 frame.1 frame.2
     (written_part _ _ _ _ _ _ c.clear.ensures.items frame.3 part) e.spent)
 
 pub frames-preserved : goal.frames-preserved
@@ -114,7 +114,7 @@ frames-preserved g c =
       same = next.same;
       begun = next.begun;
       none = next.none;
-      going = going_more c.firsts_go_on.ensures _ _ _ _ _ _ _ _ _ so.going frame.1 frame.2
+      going = going_more c.firsts_go_on.ensures c.frames-2.ensures _ _ _ _ _ _ _ _ _ so.going frame.1 frame.2
           (written_whole _ _ _ _ _ _ c.clear.ensures.items frame.3 appends flushed) (c.count_frame.ensures c.args.table.now c.frames.issuer frame.0 frame.4);
       running = running_write _ _ _ _ _ _ (running_read _ _ _ _ _ _ so.running next.turns drawn.spends) e.turns e.spent;
     }

@@ -23,5 +23,5 @@ returns-in-Ok-answer_body-clause-took c =
     let here : c.in-Ok-Some.length ≤ length bytes - header_size h = omega (arith, c.if-length-bytes.true, c.size.ensures) in
     let none : head_of c.args.begun.now ≡ [] = ap (λ (k : ℕ). take k c.args.begun.now.head) c.requires.none in
     let e = c.in-Ok-answer_body.ensures in
-    rw c.ending.ensures (takes_whole h bytes c.in-Ok-Some.length told.0 told.1 here c.args.table.now _ _ c.args.issuer.now c.answer_body.new.issuer c.args.out.now.items c.answer_body.new.out.items _ c.answer_body.new.told none none
+    rw c.ending.ensures (takes_whole h bytes c.in-Ok-Some.length told.0 told.1 here c.frames.ensures c.args.table.now _ _ c.args.issuer.now c.answer_body.new.issuer c.args.out.now.items c.answer_body.new.out.items _ c.answer_body.new.told none none
     (ap (λ (k : ℕ). k + c.in-Ok-Some.length) c.size-in-Ok-answer_body.ensures) (rw rest at e.answered) (rw rest at e.handled))

@@ -10,7 +10,7 @@ some_of bytes differ e = let same : (length bytes == 0) ≡ true = eq-eqb (lengt
 
 pub returns-then-is_empty-clause-took : goal.returns-then-is_empty-clause-took
 returns-then-is_empty-clause-took c =
-    rw c.inside.ensures (takes_none c.args.table.now c.args.header c.args.begun.now c.args.issuer.now c.args.bytes.now c.args.out.now.items c.requires.outside
+    rw c.inside.ensures (takes_none c.frames.ensures c.args.table.now c.args.header c.args.begun.now c.args.issuer.now c.args.bytes.now c.args.out.now.items c.requires.outside
     (none_of c.args.bytes.now (eqb-true (length c.args.bytes.now) 0 (sym c.if-is_empty.ensures))))
 
 pub returns-in-Err-clause-refused : goal.returns-in-Err-clause-refused

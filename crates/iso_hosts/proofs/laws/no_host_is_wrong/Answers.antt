@@ -18,6 +18,7 @@ returns-clause-told c = λ accounts limit kept events start.
       one = λ o p. (c.comparisons.ensures.orders o p).0;
       last = c.keys_stay_distinct.ensures.new;
       distinct = c.keys_stay_distinct.ensures.distinct;
+      starts = c.starts.ensures;
     } in
     all_told laws accounts limit kept events start
 
@@ -32,6 +33,7 @@ returns-clause-agree c = λ accounts limit kept events start.
       one = λ o p. (c.comparisons.ensures.orders o p).0;
       last = c.keys_stay_distinct.ensures.new;
       distinct = c.keys_stay_distinct.ensures.distinct;
+      starts = c.starts.ensures;
     } in
     agree laws accounts limit kept events start
 
@@ -46,6 +48,7 @@ returns-clause-once c = λ accounts limit kept events start.
       one = λ o p. (c.comparisons.ensures.orders o p).0;
       last = c.keys_stay_distinct.ensures.new;
       distinct = c.keys_stay_distinct.ensures.distinct;
+      starts = c.starts.ensures;
     } in
     kept_once laws accounts limit kept events start
 
@@ -60,6 +63,7 @@ returns-clause-gaps c = λ accounts limit kept events start.
       one = λ o p. (c.comparisons.ensures.orders o p).0;
       last = c.keys_stay_distinct.ensures.new;
       distinct = c.keys_stay_distinct.ensures.distinct;
+      starts = c.starts.ensures;
     } in
     no_gaps laws accounts limit kept events start
 
@@ -74,6 +78,7 @@ returns-clause-seen c = λ accounts limit kept events start.
       one = λ o p. (c.comparisons.ensures.orders o p).0;
       last = c.keys_stay_distinct.ensures.new;
       distinct = c.keys_stay_distinct.ensures.distinct;
+      starts = c.starts.ensures;
     } in
     seen_is_kept laws accounts limit kept events start
 
@@ -103,6 +108,7 @@ returns-clause-own c =
       one = λ o p. (c.comparisons.ensures.orders o p).0;
       last = c.keys_stay_distinct.ensures.new;
       distinct = c.keys_stay_distinct.ensures.distinct;
+      starts = c.starts.ensures;
     } in
     own_is_told laws
 
@@ -117,6 +123,7 @@ returns-clause-fenced c =
       one = λ o p. (c.comparisons.ensures.orders o p).0;
       last = c.keys_stay_distinct.ensures.new;
       distinct = c.keys_stay_distinct.ensures.distinct;
+      starts = c.starts.ensures;
     } in
     fenced_says_nothing laws
 
@@ -131,6 +138,7 @@ returns-clause-succeeds c =
       one = λ o p. (c.comparisons.ensures.orders o p).0;
       last = c.keys_stay_distinct.ensures.new;
       distinct = c.keys_stay_distinct.ensures.distinct;
+      starts = c.starts.ensures;
     } in
     sync_succeeds laws
 
@@ -145,6 +153,7 @@ returns-clause-calls c =
       one = λ o p. (c.comparisons.ensures.orders o p).0;
       last = c.keys_stay_distinct.ensures.new;
       distinct = c.keys_stay_distinct.ensures.distinct;
+      starts = c.starts.ensures;
     } in
     calls_are_events laws
 
@@ -159,5 +168,6 @@ returns-clause-answers c =
       one = λ o p. (c.comparisons.ensures.orders o p).0;
       last = c.keys_stay_distinct.ensures.new;
       distinct = c.keys_stay_distinct.ensures.distinct;
+      starts = c.starts.ensures;
     } in
     calls_are_told laws

@@ -10,9 +10,9 @@ returns-in-Ok-clause-consistent g c = λ clean only.
     record {
       ready = is;
       same = e.held clean only ∙ ap journal_orders (sym (e.records clean only))
-          ∙ all_held g.D.Disk.seen g.D.Disk.may_leave g.D.Disk.is_usable c.load.new.disk c.in-Ok.loaded.slots c.in-Ok.loaded.count is.log_is;
+          ∙ all_held c.files.ensures g.D.Disk.seen g.D.Disk.may_leave g.D.Disk.is_usable c.load.new.disk c.in-Ok.loaded.slots c.in-Ok.loaded.count is.log_is;
     }
 
 pub returns-in-Ok-clause-none : goal.returns-in-Ok-clause-none
 returns-in-Ok-clause-none g c = λ clean only.
-    none_waits g.D.Disk.seen g.D.Disk.may_leave g.D.Disk.is_usable c.load.new.disk c.in-Ok.loaded.slots c.in-Ok.loaded.count (c.in-Ok.ensures.ready clean only).log_is
+    none_waits c.files.ensures g.D.Disk.seen g.D.Disk.may_leave g.D.Disk.is_usable c.load.new.disk c.in-Ok.loaded.slots c.in-Ok.loaded.count (c.in-Ok.ensures.ready clean only).log_is

@@ -13,6 +13,6 @@ loop-place-preserved c =
     record {
       accounts = r.accounts good ∙ l.invariant.accounts;
       limit = r.limit good ∙ l.invariant.limit;
-      orders = one_entered old l.issuer l.place piece bytes c.record_at-record.ensures l.invariant.accounts l.invariant.limit l.invariant.orders c.replay_record.new.issuer.orders (r.entered good);
-      written = one_written old l.issuer l.place piece bytes c.record_at-record.ensures l.invariant.accounts l.invariant.limit l.invariant.orders l.invariant.written (r.written good);
+      orders = one_entered c.slots.ensures old l.issuer l.place piece bytes c.record_at-record.ensures l.invariant.accounts l.invariant.limit l.invariant.orders c.replay_record.new.issuer.orders (r.entered good);
+      written = one_written c.slots.ensures old l.issuer l.place piece bytes c.record_at-record.ensures l.invariant.accounts l.invariant.limit l.invariant.orders l.invariant.written (r.written good);
     }

@@ -1,7 +1,7 @@
 use Rattle.std.proofs.Common.{◌≡◌, ◌≤◌, ◌-◌, ℕ, List, []}
 use Rattle.std.specs.Prelude.{IsTrue}
 use Rattle.iso_log.specs.Log.{IsFile}
-use Rattle.iso_log.proofs.Behind.{behind}
+use Rattle.iso_log.specs.Headed.{behind}
 use Rattle.iso_journal.specs.Orders.{orders_of}
 use Rattle.iso_journal.specs.Written.{AreWritten}
 use Rattle.iso_journal.proofs.replaying.replay_records.Given as goal

@@ -8,7 +8,7 @@ pub loop-preserved : goal.loop-preserved
 loop-preserved g c =
     let none : c.loop.peer.standing.ended ≡ None = reads_on c.loop.peer.line.terms.now.limits c.loop.peer.standing c.args.now (search rules) in
     record {
-      came = λ key. reads_more g.S.Read.remaining key c.args.peer.now c.loop.peer c.read.new.self c.args.host.now.host c.loop.host.host c.read.new.host.host
+      came = λ key. reads_more g.S.Read.remaining c.frames.ensures key c.args.peer.now c.loop.peer c.read.new.self c.args.host.now.host c.loop.host.host c.read.new.host.host
           (c.loop.invariant.came key) (c.read.ensures.came none key);
       heard = more_heard c.args.host.now.host c.loop.host.host c.read.new.host.host c.loop.invariant.heard c.read.ensures.heard;
       log = c.read.ensures.log ∙ c.loop.invariant.log;

@@ -1,14 +1,12 @@
-use Rattle.std.proofs.Common.{◌≡◌, ◌≤◌, ◌-◌, length, take}
+use Rattle.std.proofs.Common.{◌≡◌, ◌-◌, length}
 use Rattle.iso_peers.specs.Host.{IsInStep}
-use Rattle.iso_peers.proofs.Pieces.{SoFar}
+use Rattle.iso_peers.specs.Pieces.{TakenSoFar}
+use Rattle.iso_peers.specs.Turn.{at_books}
 use Rattle.iso_lines.proofs.taking.take_noted.Given as goal
 
 abbrev pub invariant-pieces : goal.invariant-pieces
 invariant-pieces g l = record {
-  within : l.used ≤ length l.bytes;
-  table : l.connection.peer.table ≡ l.initial.connection.peer.table;
-  header : l.connection.peer.header ≡ l.initial.connection.peer.header;
-  so_far : SoFar l.initial.connection.peer.table l.initial.connection.peer.header l.initial.connection l.connection l.initial.host.host l.host.host (take l.used l.bytes);
+  so_far : TakenSoFar (at_books l.initial.connection l.initial.host.host) (at_books l.connection l.host.host) l.bytes l.used;
   log : l.host.log ≡ l.initial.host.log;
   kept : l.host.kept ≡ l.initial.host.kept;
   failed : l.host.has_failed ≡ l.initial.host.has_failed;

@@ -1,7 +1,8 @@
-use Rattle.std.proofs.Common.{◌≡◌, ◌∙◌, ◌*◌, sym, refl, arith, ap, subst, inl, List, ℕ, length}
-use Rattle.std.specs.Prelude.{slice_index, IsTrue}
+use Rattle.std.proofs.Common.{◌∙◌, ◌*◌, sym, refl, arith, ap, subst, List, ℕ}
+use Rattle.std.specs.Prelude.{IsTrue}
 use Rattle.iso_log.specs.Slots.{records_of}
-use Rattle.iso_log.specs.Log.{IsAtRest, IsFirst, IsCleared}
+use Rattle.iso_log.specs.Log.{IsAtRest, IsFile, IsFirst, IsCleared}
+use Rattle.iso_log.proofs.Crash.{left_same, leaves_all}
 use Rattle.iso_log.proofs.Recovered.{settled_rest, settled_left, same_records_of, cleared_file, cleared_left}
 use Rattle.iso_log.proofs.recovery.settle.Goals as goal
 use Rattle.iso_log.proofs.recovery.settle.Given.{Over}
@@ -70,12 +71,14 @@ returns-clause-records g c = λ clean rest.
 pub returns-clause-log : goal.returns-clause-log
 returns-clause-log g c = λ clean rest.
     let e = c.in-Ok.ensures in
+    let count = c.in_ok-count.count in
+    let file : IsFile c.args.slots count (g.D.Disk.seen c.sync.new.self) =
+    rw e.seen (cleared_file c.args.slots count (g.D.Disk.seen c.args.disk.now) (g.D.Disk.seen c.clear_from.new.disk) rest.size (first g c clean) (cleared g c clean rest)) in
     record {
       usable = rw e.usable refl;
       small = c.requires.small;
-      file = rw e.seen (cleared_file c.args.slots c.in_ok-count.count (g.D.Disk.seen c.args.disk.now) (g.D.Disk.seen c.clear_from.new.disk) rest.size (first g c clean) (cleared g c clean rest));
+      file = file;
       some = omega arith;
-      left = λ kept here.
-          let same : kept ≡ g.D.Disk.seen c.sync.new.self = e.durable kept here ∙ sym e.seen in
-          record { size = ap length same; each = λ i lt. inl (ap (λ (l : List ℕ). slice_index l i) same) };
+      left = λ kept here. left_same (128 * count) (g.D.Disk.seen c.sync.new.self) kept (e.durable kept here ∙ sym e.seen);
+      leaves = λ kept here. leaves_all c.args.slots count (g.D.Disk.seen c.sync.new.self) kept file (e.durable kept here ∙ sym e.seen);
     }

@@ -15,6 +15,7 @@ returns-clause-without c = λ id accounts limit events own can.
       known = c.keys_stay_distinct.ensures.known;
       last = c.keys_stay_distinct.ensures.new;
       distinct = c.keys_stay_distinct.ensures.distinct;
+      starts = c.starts.ensures;
     } in
     without laws id accounts limit events own can
 
@@ -29,6 +30,7 @@ returns-clause-agree c = λ id accounts limit events own can.
       known = c.keys_stay_distinct.ensures.known;
       last = c.keys_stay_distinct.ensures.new;
       distinct = c.keys_stay_distinct.ensures.distinct;
+      starts = c.starts.ensures;
     } in
     agree-over laws id accounts limit events own can c.runs_agree.ensures.agree
 
@@ -43,6 +45,7 @@ returns-clause-closed c = λ id accounts limit events own can more can_more.
       known = c.keys_stay_distinct.ensures.known;
       last = c.keys_stay_distinct.ensures.new;
       distinct = c.keys_stay_distinct.ensures.distinct;
+      starts = c.starts.ensures;
     } in
     closed-over laws id accounts limit events own can c.runs_agree.ensures.closed more can_more
 
@@ -57,6 +60,7 @@ returns-clause-books c = λ id accounts limit events own can.
       known = c.keys_stay_distinct.ensures.known;
       last = c.keys_stay_distinct.ensures.new;
       distinct = c.keys_stay_distinct.ensures.distinct;
+      starts = c.starts.ensures;
     } in
     balance-over laws id accounts limit events own can c.runs_agree.ensures.books
 

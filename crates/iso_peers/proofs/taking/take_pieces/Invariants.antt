@@ -1,14 +1,10 @@
-use Rattle.std.proofs.Common.{◌≡◌, ◌≤◌, ◌-◌, length, take}
-use Rattle.iso_peers.proofs.Pieces.{SoFar}
+use Rattle.std.proofs.Common.{◌-◌, length}
+use Rattle.iso_peers.specs.Pieces.{TakenSoFar}
+use Rattle.iso_peers.specs.Turn.{at_books}
 use Rattle.iso_peers.proofs.taking.take_pieces.Given as goal
 
 abbrev pub invariant-pieces : goal.invariant-pieces
-invariant-pieces l = record {
-  within : l.used ≤ length l.bytes;
-  table : l.connection.peer.table ≡ l.initial.connection.peer.table;
-  header : l.connection.peer.header ≡ l.initial.connection.peer.header;
-  so_far : SoFar l.initial.connection.peer.table l.initial.connection.peer.header l.initial.connection l.connection l.initial.host l.host (take l.used l.bytes);
-}
+invariant-pieces l = TakenSoFar (at_books l.initial.connection l.initial.host) (at_books l.connection l.host) l.bytes l.used
 
 abbrev pub decreases-pieces : goal.decreases-pieces
 decreases-pieces l = length l.bytes - l.used

@@ -15,13 +15,13 @@ use Rattle.iso_service.proofs.serving.serve_kept.Goals as goal
 pub returns-in_err-block-clause-kept : goal.returns-in_err-block-clause-kept
 returns-in_err-block-clause-kept g c = λ step kept.
     kept_first c.args.link.now.table c.args.link.now.header (g.R.Inlet.remaining c.args.reader.now) (g.W.Outlet.contents c.args.writer.now) c.args.host.now.host
-    (g.L.Log.may_leave c.args.host.now.log) (subst (λ (b : Books). StaysWithout b) c.issuer.ensures c.one_journal.ensures.none) (c.kept_outlive.ensures step kept)
+    (g.L.Log.may_leave c.args.host.now.log) c.output_goes_on.ensures.none (subst (λ (b : Books). StaysWithout b) c.issuer.ensures c.one_journal.ensures.none) (c.kept_outlive.ensures step kept)
 
 pub returns-in_err-block-clause-leaves : goal.returns-in_err-block-clause-leaves
 returns-in_err-block-clause-leaves g c =
     let exit = err_from_is_err_and c.from_residual.result c.from_residual.ensures.1 in
     rw (exit.1, exit.2, c.in_err-block.ensures.fault) (no_block c.args.link.now.table c.args.link.now.header (g.R.Inlet.remaining c.args.reader.now) (g.W.Outlet.contents c.args.writer.now) c.args.host.now.host
-    (subst (λ (b : Books). StaysWithout b) c.issuer.ensures c.one_journal.ensures.none))
+    c.output_goes_on.ensures.none (subst (λ (b : Books). StaysWithout b) c.issuer.ensures c.one_journal.ensures.none))
 
 pub loop-init : goal.loop-init
 loop-init g c = record {
@@ -29,7 +29,7 @@ loop-init g c = record {
   header = ap (λ (p : Unfinished). p.header) c.new-connection.ensures.link;
   room = c.in_ok-block.ensures.size;
   going = at_first c.args.link.now.table c.args.link.now.header (g.R.Inlet.remaining c.args.reader.now) (g.W.Outlet.contents c.args.writer.now) c.args.host.now.host
-      c.new-connection.result (subst (λ (b : Books). StaysWithout b) c.issuer.ensures c.one_journal.ensures.none)
+      c.new-connection.result c.output_goes_on.ensures.none (subst (λ (b : Books). StaysWithout b) c.issuer.ensures c.one_journal.ensures.none)
       (ap (λ (p : Unfinished). p.held) c.new-connection.ensures.link) c.new-connection.ensures.none;
   kept = λ k. k;
   step = λ s. s;
@@ -92,7 +92,7 @@ returns-in_err-keep_and_answer-clause-kept g c = λ step kept.
     kept_hands c.args.link.now.table c.args.link.now.header (g.R.Inlet.remaining c.args.reader.now) (g.W.Outlet.contents c.args.writer.now) c.args.host.now.host
     (g.R.Inlet.remaining c.loop.reader) (g.W.Outlet.contents c.loop.writer) c.loop.host.host c.loop.connection c.loop.invariant.going
     (g.R.Inlet.remaining c.fill.new.reader) (take c.in_ok-count.count c.deref.result.now) c.take_counted.new.connection c.take_counted.new.host.host
-    c.in_ok-turned.turned c.one_journal.ensures.more c.loop.invariant.table c.loop.invariant.header
+    c.in_ok-turned.turned c.frames.ensures c.one_journal.ensures.alone c.one_journal.ensures.more c.loop.invariant.table c.loop.invariant.header
     (c.take_counted.ensures.table ∙ c.loop.invariant.table) (c.take_counted.ensures.header ∙ c.loop.invariant.header)
     (subst (λ (l : List ℕ). Consumes (g.R.Inlet.remaining c.loop.reader) (g.R.Inlet.remaining c.fill.new.reader) (take c.in_ok-count.count l)) (sym c.deref.ensures.value)
     c.in_ok-count.ensures.read) c.in_ok-turned.ensures.took c.in_err-keep_and_answer.field-0.0 (g.W.Outlet.contents c.keep_and_answer.new.writer) may_leave c.in_err-keep_and_answer.ensures.written
@@ -105,7 +105,7 @@ returns-in_err-goes_on-clause-kept g c = λ step kept.
     kept_all c.args.link.now.table c.args.link.now.header (g.R.Inlet.remaining c.args.reader.now) (g.W.Outlet.contents c.args.writer.now) c.args.host.now.host
     (g.R.Inlet.remaining c.loop.reader) (g.W.Outlet.contents c.loop.writer) c.loop.host.host c.loop.connection c.loop.invariant.going
     (g.R.Inlet.remaining c.fill.new.reader) (take c.in_ok-count.count c.deref.result.now) c.take_counted.new.connection c.take_counted.new.host.host
-    c.in_ok-turned.turned c.one_journal.ensures.more c.loop.invariant.table c.loop.invariant.header
+    c.in_ok-turned.turned c.frames.ensures c.one_journal.ensures.alone c.one_journal.ensures.more c.loop.invariant.table c.loop.invariant.header
     (c.take_counted.ensures.table ∙ c.loop.invariant.table) (c.take_counted.ensures.header ∙ c.loop.invariant.header)
     (subst (λ (l : List ℕ). Consumes (g.R.Inlet.remaining c.loop.reader) (g.R.Inlet.remaining c.fill.new.reader) (take c.in_ok-count.count l)) (sym c.deref.ensures.value)
     c.in_ok-count.ensures.read) c.in_ok-turned.ensures.took (g.W.Outlet.contents c.keep_and_answer.new.writer) (g.L.Log.may_leave c.keep_and_answer.new.host.log)
@@ -118,7 +118,7 @@ returns-in_err-goes_on-clause-leaves g c =
     (ends_stopped c.args.link.now.table c.args.link.now.header (g.R.Inlet.remaining c.args.reader.now) (g.W.Outlet.contents c.args.writer.now) c.args.host.now.host
     (g.R.Inlet.remaining c.loop.reader) (g.W.Outlet.contents c.loop.writer) c.loop.host.host c.loop.connection c.loop.invariant.going
     (g.R.Inlet.remaining c.fill.new.reader) (take c.in_ok-count.count c.deref.result.now) c.take_counted.new.connection c.take_counted.new.host.host
-    c.in_ok-turned.turned c.one_journal.ensures.more c.loop.invariant.table c.loop.invariant.header
+    c.in_ok-turned.turned c.frames.ensures c.one_journal.ensures.alone c.one_journal.ensures.more c.loop.invariant.table c.loop.invariant.header
     (c.take_counted.ensures.table ∙ c.loop.invariant.table) (c.take_counted.ensures.header ∙ c.loop.invariant.header)
     (subst (λ (l : List ℕ). Consumes (g.R.Inlet.remaining c.loop.reader) (g.R.Inlet.remaining c.fill.new.reader) (take c.in_ok-count.count l)) (sym c.deref.ensures.value)
     c.in_ok-count.ensures.read) c.in_ok-turned.ensures.took (g.W.Outlet.contents c.keep_and_answer.new.writer) c.in_err-goes_on.ensures.stopped.0 c.in_err-goes_on.field-0.0 c.splits_once.ensures.bad
@@ -135,7 +135,7 @@ loop-preserved g c = record {
       (goes_on c.args.link.now.table c.args.link.now.header (g.R.Inlet.remaining c.args.reader.now) (g.W.Outlet.contents c.args.writer.now) c.args.host.now.host
       (g.R.Inlet.remaining c.loop.reader) (g.W.Outlet.contents c.loop.writer) c.loop.host.host c.loop.connection c.loop.invariant.going
       (g.R.Inlet.remaining c.fill.new.reader) (take c.in_ok-count.count c.deref.result.now) c.take_counted.new.connection c.take_counted.new.host.host
-      c.in_ok-turned.turned c.one_journal.ensures.more c.loop.invariant.table c.loop.invariant.header
+      c.in_ok-turned.turned c.frames.ensures c.one_journal.ensures.alone c.one_journal.ensures.more c.loop.invariant.table c.loop.invariant.header
       (c.take_counted.ensures.table ∙ c.loop.invariant.table) (c.take_counted.ensures.header ∙ c.loop.invariant.header)
       (subst (λ (l : List ℕ). Consumes (g.R.Inlet.remaining c.loop.reader) (g.R.Inlet.remaining c.fill.new.reader) (take c.in_ok-count.count l)) (sym c.deref.ensures.value)
       c.in_ok-count.ensures.read) c.in_ok-turned.ensures.took (g.W.Outlet.contents c.keep_and_answer.new.writer) c.keep_and_answer.new.connection c.in_ok-keep_and_answer.ensures.written c.in_ok-goes_on.ensures.more

@@ -1,20 +1,12 @@
-use Rattle.std.proofs.Common.{◌≡◌, ◌∙◌, ◌+◌, ◌-◌, arith, length, take, drop, refl, subst, List, ℕ}
+use Rattle.std.proofs.Common.{◌≡◌, ◌∙◌, ◌-◌, arith, length, take, drop, refl, subst, List, ℕ}
 use Rattle.std.proofs.lemmas.List.{length-drop, take_all}
-use Rattle.iso_wire.specs.declared.header.Header.{Header}
-use Rattle.iso_wire.specs.Framing.{NoFrame}
-use Rattle.iso_issuer.specs.Books.{Books}
-use Rattle.iso_host.specs.Entering.{StaysWithout}
+use Rattle.iso_peers.specs.Pieces.{TakesNext}
 use Rattle.iso_peers.specs.Turn.{TakesOf, at_books}
-use Rattle.iso_peers.proofs.Pieces.{at_first, next_taken, no_frame_after, all_taken}
 use Rattle.iso_service.proofs.taking.take_counted.Goals as goal
 
 pub pieces-init : goal.pieces-init
 pieces-init g c = record {
-  within = omega arith;
-  table = refl;
-  header = refl;
-  so_far = at_first c.args.connection.now.peer.table c.args.connection.now.peer.header c.args.connection.now c.args.host.now.host
-      (subst (λ (b : Books). StaysWithout b) c.issuer.ensures c.one_journal.ensures.none);
+  so_far = c.piece_by_piece.ensures.none c.args.connection.now c.args.bytes.now;
   log = refl;
   kept = refl;
   failed = refl;
@@ -25,16 +17,17 @@ pub pieces-preserved : goal.pieces-preserved
 pieces-preserved g c =
     let so = c.pieces.invariant in
     let bytes = c.args.bytes.now in
-    let new = c.take.new in
-    let rest : take (length bytes - c.pieces.used) (drop c.pieces.used bytes) ≡ drop c.pieces.used bytes =
-    take_all (length bytes - c.pieces.used) (drop c.pieces.used bytes) (omega (arith, length-drop c.pieces.used bytes)) in
-    let took = subst (λ (l : List ℕ). TakesOf (at_books c.pieces.connection c.pieces.host.host) (at_books new.connection new.self.host) l c.in-Ok.taken) rest c.in-Ok.ensures.took in
+    let used = c.pieces.used in
+    let mid = at_books c.pieces.connection c.pieces.host.host in
+    let last = at_books c.take.new.connection c.take.new.self.host in
+    let rest : take (length bytes - used) (drop used bytes) ≡ drop used bytes = take_all (length bytes - used) (drop used bytes) (omega (arith, length-drop used bytes)) in
+    let took : TakesNext mid last (drop used bytes) c.in-Ok.taken = record {
+      took = subst (λ (l : List ℕ). TakesOf mid last l c.in-Ok.taken) rest c.in-Ok.ensures.took;
+      table = c.take.ensures.table;
+      header = c.take.ensures.header;
+    } in
     record {
-      within = omega (arith, took.within, length-drop c.pieces.used bytes, so.within);
-      table = c.take.ensures.table ∙ so.table;
-      header = c.take.ensures.header ∙ so.header;
-      so_far = next_taken c.args.connection.now c.pieces.connection new.connection c.args.host.now.host c.pieces.host.host new.self.host bytes c.pieces.used c.in-Ok.taken
-          c.one_journal.ensures.more so.table so.header so.so_far took;
+      so_far = c.piece_by_piece.ensures.next _ mid last bytes used c.in-Ok.taken so.so_far took;
       log = c.take.ensures.log ∙ so.log;
       kept = c.take.ensures.kept ∙ so.kept;
       failed = c.take.ensures.failed ∙ so.failed;
@@ -43,16 +36,14 @@ pieces-preserved g c =
 
 pub returns-then-used-bytes-clause-took : goal.returns-then-used-bytes-clause-took
 returns-then-used-bytes-clause-took g c =
-    let so = c.pieces.invariant in
     let bytes = c.args.bytes.now in
-    let old = c.pieces.connection in
-    let new = c.take.new in
-    let rest : take (length bytes - c.pieces.used) (drop c.pieces.used bytes) ≡ drop c.pieces.used bytes =
-    take_all (length bytes - c.pieces.used) (drop c.pieces.used bytes) (omega (arith, length-drop c.pieces.used bytes)) in
-    let took = subst (λ (l : List ℕ). TakesOf (at_books old c.pieces.host.host) (at_books new.connection new.self.host) l c.in-Ok.taken) rest c.in-Ok.ensures.took in
-    let so_far = next_taken c.args.connection.now old new.connection c.args.host.now.host c.pieces.host.host new.self.host bytes c.pieces.used c.in-Ok.taken
-    c.one_journal.ensures.more so.table so.header so.so_far took in
-    let none = no_frame_after c.splits_once.ensures.some old.peer.table old.peer.header old.peer.held new.connection.peer.held c.pieces.host.host new.self.host
-    (take c.in-Ok.taken.used (drop c.pieces.used bytes)) old.waiting new.connection.waiting c.in-Ok.taken.handled took.piece in
-    rw c.turned-then-used-bytes.ensures (all_taken c.args.connection.now new.connection c.args.host.now.host new.self.host bytes (c.pieces.used + c.in-Ok.taken.used) c.if-used-bytes.true
-    (c.take.ensures.header ∙ so.header) so_far (subst (λ (h : Header). NoFrame h new.connection.peer.held) so.header none))
+    let used = c.pieces.used in
+    let mid = at_books c.pieces.connection c.pieces.host.host in
+    let last = at_books c.take.new.connection c.take.new.self.host in
+    let rest : take (length bytes - used) (drop used bytes) ≡ drop used bytes = take_all (length bytes - used) (drop used bytes) (omega (arith, length-drop used bytes)) in
+    let took : TakesNext mid last (drop used bytes) c.in-Ok.taken = record {
+      took = subst (λ (l : List ℕ). TakesOf mid last l c.in-Ok.taken) rest c.in-Ok.ensures.took;
+      table = c.take.ensures.table;
+      header = c.take.ensures.header;
+    } in
+    rw c.turned-then-used-bytes.ensures (c.piece_by_piece.ensures.all _ mid last bytes used c.in-Ok.taken c.pieces.invariant.so_far took c.if-used-bytes.true)

@@ -1,7 +1,6 @@
 use Rattle.std.proofs.Common.{◌≡◌, ◌∙◌, ap, arith, refl, sym, take, [], ◌++◌, ◌+◌, length}
 use Rattle.std.proofs.lemmas.List.{take_all}
 use Rattle.iso_log.specs.Slots.{is_whole}
-use Rattle.iso_wire.proofs.Decimals.{length-decimal}
 use Rattle.iso_shared.specs.Heading.{magic, heading_bytes}
 use Rattle.iso_shared.proofs.Headings.{heading_put, length-name}
 use Rattle.iso_shared.proofs.heading.heading_bytes.Goals as goal
@@ -10,7 +9,7 @@ use Rattle.iso_shared.proofs.heading.heading_bytes.Goals.{After-put-5}
 bytes_are : (c : After-put-5) → c.put-5.new.bytes ≡ heading_bytes c.args.heading.now
 unfolding magic
 bytes_are c =
-    let lp : length c.place_digits.result ≡ 10 = ap length c.place_digits.ensures ∙ length-decimal 10 c.args.heading.now.place in
+    let lp : length c.place_digits.result ≡ 10 = ap length c.place_digits.ensures ∙ c.decimals.ensures.size 10 c.args.heading.now.place in
     let lw : length c.writer_digits-writer.result ≡ 32 = ap length c.writer_digits-writer.ensures.digits ∙ length-name c.args.heading.now.writer c.writer_digits-writer.ensures.writer in
     let two : take 38 c.put-2.new.bytes ≡ take 28 c.put.new.bytes ++ c.place_digits.result =
     ap (λ n. take (28 + n) c.put-2.new.bytes) (sym lp) ∙ c.put-2.ensures in

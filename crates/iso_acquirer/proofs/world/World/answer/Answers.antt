@@ -1,8 +1,8 @@
 use Rattle.std.proofs.Common.{◌≡◌}
 use Rattle.std.specs.Prelude.{slice_get, Some}
-use Rattle.iso_order.proofs.Lists.{all-at}
 use Rattle.iso_issuer.specs.Books.{journal}
 use Rattle.iso_acquirer.specs.Agreed.{answer_at}
+use Rattle.iso_acquirer.proofs.Lists.{all-at}
 use Rattle.iso_acquirer.proofs.Answered.{agreed-answered}
 use Rattle.iso_acquirer.proofs.world.World.answer.Goals as goal
 

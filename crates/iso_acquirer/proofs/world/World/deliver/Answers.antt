@@ -1,8 +1,8 @@
 use Rattle.std.proofs.Common.{◌≡◌, arith, ◌++◌, ◌∷◌, []}
 use Rattle.std.specs.Prelude.{slice_get, Some}
 use Rattle.std.proofs.lemmas.Grind.{common_steps}
-use Rattle.iso_order.proofs.Lists.{all-at}
 use Rattle.iso_acquirer.specs.Acquirer.{order_at}
+use Rattle.iso_acquirer.proofs.Lists.{all-at}
 use Rattle.iso_acquirer.proofs.Entered.{agreed-delivered}
 use Rattle.iso_acquirer.proofs.world.World.deliver.Goals as goal
 

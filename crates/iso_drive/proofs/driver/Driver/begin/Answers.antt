@@ -3,7 +3,6 @@ use Rattle.iso_order.specs.declared.key.TxKey.{TxKey}
 use Rattle.iso_acquirer.specs.Acquirer.{debit_of}
 use Rattle.iso_restarts.specs.Diary.{in_memory}
 use Rattle.iso_restarts.specs.Durable.{diary_of}
-use Rattle.iso_restarts.proofs.Written.{left-begins}
 use Rattle.iso_waits.specs.declared.due.Due.{Due}
 use Rattle.iso_drive.specs.declared.made.Made.{Made}
 use Rattle.std.specs.Prelude.{Some}
@@ -16,13 +15,13 @@ use Rattle.iso_drive.proofs.driver.Driver.begin.Goals as goal
 pub returns-then-len-clause-crash : goal.returns-then-len-clause-crash
 returns-then-len-clause-crash g c = λ is kept left.
     let d = diary_of g.L.NoteLog.synced g.L.NoteLog.pending c.args.self.now.acquirer in
-    left-begins d (debit_of (in_memory d) c.args.money.now.pan c.args.money.now.amount c.args.money.now.currency c.args.sent) kept
+    c.notes.ensures.crash.begun d (debit_of (in_memory d) c.args.money.now.pan c.args.money.now.amount c.args.money.now.currency c.args.sent) kept
     (g.met.L.NoteLog.leaves_front c.args.self.now.acquirer.log is.consistent.ready kept left)
 
 pub returns-in_err-make_room-clause-crash : goal.returns-in_err-make_room-clause-crash
 returns-in_err-make_room-clause-crash g c = λ is kept left.
     let d = diary_of g.L.NoteLog.synced g.L.NoteLog.pending c.args.self.now.acquirer in
-    left-begins d (debit_of (in_memory d) c.args.money.now.pan c.args.money.now.amount c.args.money.now.currency c.args.sent) kept
+    c.notes.ensures.crash.begun d (debit_of (in_memory d) c.args.money.now.pan c.args.money.now.amount c.args.money.now.currency c.args.sent) kept
     (g.met.L.NoteLog.leaves_front c.args.self.now.acquirer.log is.consistent.ready kept left)
 
 pub returns-clause-driving : goal.returns-clause-driving
@@ -37,7 +36,7 @@ returns-clause-driving g c = λ is.
     ap (λ (n : ℕ). record { base = 200; stan = n; sent = c.args.sent; acquirer = old.id }) stan
     ∙ ap (λ (n : ℕ). record { base = 200; stan = length (in_memory d).slots + 1; sent = c.args.sent; acquirer = n }) is.own in
     let at = c.moment_after-at.result in
-    driving-begun g.L.NoteLog.is_ready g.L.NoteLog.synced g.L.NoteLog.pending old
+    driving-begun c.notes.ensures.follow c.who_waits.ensures.who c.who_waits.ensures.in_time g.L.NoteLog.is_ready g.L.NoteLog.synced g.L.NoteLog.pending old
     (record { acquirer = c.begin.new.self; id = old.id; board = c.begin-2.new.board; patience = old.patience; clock = c.max-self.result })
     is (c.in_ok-stan.ensures.consistent is.consistent) refl refl o at (c.in_ok-stan.ensures.begins is.consistent)
     (omega (arith, c.len.ensures, old.board.made.ok.0, c.if-len.false)) refl

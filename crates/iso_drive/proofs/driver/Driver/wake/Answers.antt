@@ -31,7 +31,7 @@ returns-in_err-wake_first-clause-partly g c =
     (omega (arith, c.loop-woken-test.true, c.due_by-count.ensures, length-filter (is_due c.max-self.result) w)) in
     let p = err_from_is_err_and c.from_residual.result c.from_residual.ensures.1 in
     rw (p.1, p.2) (λ other is.
-    let inv = c.loop-woken.invariant (driving-moment g.L.NoteLog.is_ready g.L.NoteLog.synced g.L.NoteLog.pending old init is refl refl refl refl (omega (arith, c.max-self.ensures))) in
+    let inv = c.loop-woken.invariant (driving-moment c.who_waits.ensures.in_time g.L.NoteLog.is_ready g.L.NoteLog.synced g.L.NoteLog.pending old init is refl refl refl refl (omega (arith, c.max-self.ensures))) in
     let stays = c.in_err-wake_first.ensures.unchanged other in (
       stays.driving inv.0,
       (
@@ -48,7 +48,7 @@ returns-in_err-wake_first-clause-crash g c = λ is kept left.
     let w = old.board.waiting.items in
     let d : Driving = record { diary = diary_of g.L.NoteLog.synced g.L.NoteLog.pending old.acquirer; waiting = w; patience = old.patience; clock = c.max-self.result } in
     let init : Driver g.row.L.Denot = record { acquirer = old.acquirer; id = old.id; board = old.board; patience = old.patience; clock = c.max-self.result } in
-    let inv = c.loop-woken.invariant (driving-moment g.L.NoteLog.is_ready g.L.NoteLog.synced g.L.NoteLog.pending old init is refl refl refl refl (omega (arith, c.max-self.ensures))) in
+    let inv = c.loop-woken.invariant (driving-moment c.who_waits.ensures.in_time g.L.NoteLog.is_ready g.L.NoteLog.synced g.L.NoteLog.pending old init is refl refl refl refl (omega (arith, c.max-self.ensures))) in
     let few : c.loop-woken.woken < length w = omega (arith, c.loop-woken-test.true, c.due_by-count.ensures, count_by-le-length (is_due c.max-self.result) w) in (
       c.loop-woken.woken + 1,
       subst (λ (x : Driving). MayLeave x.diary kept) (ap (wakes_first 1) inv.1 ∙ wakes-next c.loop-woken.woken d few) (c.wake_first.ensures.crash inv.0 kept left),
@@ -65,7 +65,7 @@ pub returns-clause-driving : goal.returns-clause-driving
 returns-clause-driving g c = λ is.
     let old = c.args.self.now in
     let init : Driver g.row.L.Denot = record { acquirer = old.acquirer; id = old.id; board = old.board; patience = old.patience; clock = c.max-self.result } in
-    (c.loop-woken.invariant (driving-moment g.L.NoteLog.is_ready g.L.NoteLog.synced g.L.NoteLog.pending old init is refl refl refl refl (omega (arith, c.max-self.ensures)))).0
+    (c.loop-woken.invariant (driving-moment c.who_waits.ensures.in_time g.L.NoteLog.is_ready g.L.NoteLog.synced g.L.NoteLog.pending old init is refl refl refl refl (omega (arith, c.max-self.ensures)))).0
 
 pub returns-clause-wakes : goal.returns-clause-wakes
 returns-clause-wakes g c = λ is.
@@ -74,17 +74,17 @@ returns-clause-wakes g c = λ is.
     let clock : c.max-self.result ≡ max old.clock c.args.now = omega (arith, c.max-self.ensures) in
     let d : Driving = record { diary = diary_of g.L.NoteLog.synced g.L.NoteLog.pending old.acquirer; waiting = w; patience = old.patience; clock = c.max-self.result } in
     let init : Driver g.row.L.Denot = record { acquirer = old.acquirer; id = old.id; board = old.board; patience = old.patience; clock = c.max-self.result } in
-    let inv = c.loop-woken.invariant (driving-moment g.L.NoteLog.is_ready g.L.NoteLog.synced g.L.NoteLog.pending old init is refl refl refl refl (omega (arith, c.max-self.ensures))) in
+    let inv = c.loop-woken.invariant (driving-moment c.who_waits.ensures.in_time g.L.NoteLog.is_ready g.L.NoteLog.synced g.L.NoteLog.pending old init is refl refl refl refl (omega (arith, c.max-self.ensures))) in
     let all : c.loop-woken.woken ≡ length (due_by c.max-self.result w) =
     omega (arith, c.loop-woken-test.false, c.loop-woken.auto.woken-end, c.due_by-count.ensures, length-filter (is_due c.max-self.result) w) in
-    inv.1 ∙ ap (λ (n : ℕ). wakes_first n d) all ∙ wakes-due d is.in_time.in_order
+    inv.1 ∙ ap (λ (n : ℕ). wakes_first n d) all ∙ wakes-due c.who_waits.ensures.in_time d is.in_time.in_order
     ∙ ap (λ (n : ℕ). wakes (record { diary = diary_of g.L.NoteLog.synced g.L.NoteLog.pending old.acquirer; waiting = w; patience = old.patience; clock = n })) clock
 
 pub returns-clause-crash : goal.returns-clause-crash
 returns-clause-crash g c = λ is kept left.
     let old = c.args.self.now in
     let init : Driver g.row.L.Denot = record { acquirer = old.acquirer; id = old.id; board = old.board; patience = old.patience; clock = c.max-self.result } in
-    let inv = c.loop-woken.invariant (driving-moment g.L.NoteLog.is_ready g.L.NoteLog.synced g.L.NoteLog.pending old init is refl refl refl refl (omega (arith, c.max-self.ensures))) in (
+    let inv = c.loop-woken.invariant (driving-moment c.who_waits.ensures.in_time g.L.NoteLog.is_ready g.L.NoteLog.synced g.L.NoteLog.pending old init is refl refl refl refl (omega (arith, c.max-self.ensures))) in (
       c.loop-woken.woken,
       subst (λ (x : Driving). MayLeave x.diary kept) inv.1 (g.met.L.NoteLog.leaves_front c.loop-woken.self.acquirer.log inv.0.consistent.ready kept left),
     )

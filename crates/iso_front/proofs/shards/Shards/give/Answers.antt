@@ -1,8 +1,7 @@
 use Rattle.std.proofs.Common.{◌≡◌, ◌<◌, ◌++◌, refl, [], ◌∷◌, length, arith}
 use Rattle.std.proofs.lemmas.Grind.{common_steps}
-use Rattle.iso_order.proofs.Lists.{all-push}
 use Rattle.iso_front.specs.declared.prefixes.Given.{Given}
-use Rattle.iso_front.proofs.Belonging.{none-meet-push}
+use Rattle.iso_front.proofs.Belonging.{all-push, none-meet-push}
 use Rattle.iso_front.proofs.shards.Shards.give.Goals as goal
 
 pub invariant_of-self-2 : goal.invariant_of-self-2

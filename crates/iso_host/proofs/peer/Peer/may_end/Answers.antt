@@ -5,4 +5,4 @@ pub head_len-requires : goal.head_len-requires
 head_len-requires c = head_few c.self.inside.header c.self.inside.begun c.self.inside.gathering.part c.self.invariant.2
 
 pub returns : goal.returns
-returns c = rw (← c.self.view_is) (between c.self.inside.header c.self.inside.begun c.self.inside.gathering.part c.head_len.result c.self.invariant.2 c.head_len.ensures)
+returns c = rw (← c.self.view_is) (between c.frames.ensures c.self.inside.header c.self.inside.begun c.self.inside.gathering.part c.head_len.result c.self.invariant.2 c.head_len.ensures)

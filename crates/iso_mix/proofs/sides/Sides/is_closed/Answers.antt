@@ -6,4 +6,5 @@ pub returns-clause-closed : goal.returns-clause-closed
 returns-clause-closed c = λ b.
     let self = c.args.self.now in
     let last = moment_after self.clock self.patience in
-    (λ h. none-open self.made.items self.waiting.items last b (c.is_empty.ensures.0 h), λ all. c.is_empty.ensures.1 (none-left self.made.items self.waiting.items last b all))
+    let who = c.who_waits.ensures.who in
+    (λ h. none-open who self.made.items self.waiting.items last b (c.is_empty.ensures.0 h), λ all. c.is_empty.ensures.1 (none-left who self.made.items self.waiting.items last b all))

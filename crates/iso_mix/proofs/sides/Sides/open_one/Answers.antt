@@ -22,5 +22,5 @@ returns-clause-kept c = λ b.
     (c.wait.ensures ∙ ap (λ (l : List Due). l ++ record { stan = c.key.result.stan; at = at } ∷ []) c.in_ok-reserve-2.ensures.items
     ∙ ap (λ k. old.waiting.items ++ record { stan = k; at = at } ∷ []) (ap (λ k. k.stan) c.key.ensures.value))
     (sym c.moment_after-at.ensures)
-    (kept-opened old.made.items old.waiting.items (moment_after old.clock old.patience) at c.args.kind d o b
+    (kept-opened c.who_waits.ensures.who c.who_waits.ensures.in_time old.made.items old.waiting.items (moment_after old.clock old.patience) at c.args.kind d o b
     (omega (arith, c.moment_after-at.ensures, c.max-self.ensures)) order)

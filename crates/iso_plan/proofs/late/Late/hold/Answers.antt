@@ -1,10 +1,13 @@
 use Rattle.std.proofs.Common.{◌≡◌, ◌≤◌, ◌<◌, ℕ, arith, subst, sym, ap, ◌∙◌, List}
 use Rattle.std.specs.List.{AllByRecursion}
-use Rattle.iso_order.proofs.Lists.{all-weaker}
+use Rattle.std.proofs.lemmas.List.Elements.{All-weaker, All-from_recursion, recursion_from_All}
 use Rattle.iso_plan.specs.declared.late.Held.{Held}
 use Rattle.iso_plan.specs.Late.{Waiting, put, waits_of}
 use Rattle.iso_plan.proofs.Putting.{put-insert, all-insert}
 use Rattle.iso_plan.proofs.late.Late.hold.Goals as goal
+
+all-weaker : {X : Type 0} (P Q : X → Type 0) (xs : List X) → ((x : X) → P x → Q x) → AllByRecursion P xs → AllByRecursion Q xs
+all-weaker P Q xs f all = recursion_from_All Q xs (All-weaker P Q f xs (All-from_recursion P xs all))
 
 pub invariant_of-self-2 : goal.invariant_of-self-2
 invariant_of-self-2 c =
