@@ -1,5 +1,10 @@
 //! The table of a text.
 
+ghost use Rattle.std.specs.Prelude.{◌↔◌, IfOk, IsErrOf};
+ghost use Rattle.std.specs.Str.{IsUtf8};
+ghost use Rattle.iso_import.specs.declared.fault.ImportFault.TheVariants.{NotText};
+ghost use Rattle.iso_import.specs.Taken.{IsDraftOf};
+
 use crate::fault::ImportFault;
 use crate::jpos::packager_in;
 use crate::kinds::Bytes;
@@ -15,7 +20,13 @@ pub fn import(
     text: &[u8],
     version: u8,
     bytes: Bytes,
-) -> Result<Imported, ImportFault> {
+) -> Result<Imported, ImportFault>
+    // What is taken is a draft for message types of this first digit, and its rows are such as a
+    // table can have: each is of an element and good, and no two have one number.
+    ensures draft { IfOk result (λ imported. IsDraftOf version imported.draft) }
+    // `NotText` comes exactly where the text isn't UTF-8.
+    ensures text { IsErrOf result NotText ↔ (IsUtf8 text.now → ⊥) }
+{
     let Ok(text) = str::from_utf8(text) else {
         return Err(ImportFault::NotText);
     };

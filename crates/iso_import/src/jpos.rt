@@ -1,10 +1,15 @@
 //! A packager of jPOS.
 
+ghost use Rattle.std.specs.Prelude.{◌≡◌, IfOk, IsErrOf};
+ghost use Rattle.iso_import.specs.declared.fault.ImportFault.TheVariants.{NotText};
+ghost use Rattle.iso_import.specs.Kinds.{IsOfClass, bitmap_named, laid_out, mti_named, row_with};
+ghost use Rattle.iso_import.specs.Taken.{CanJoin, GoesOn, IsDraftOf, TakesFront};
+
 use crate::fault::ImportFault;
-use crate::kinds::{Bytes, kind_of, no_row};
+use crate::kinds::{Bytes, Kind, kind_of, no_row, on_track};
 use crate::markup::{Markup, attribute, is_empty, name_of, next_markup};
 use crate::taken::Imported;
-use iso_parts::{BitmapCoding, CharClass, Coding, Digits, FieldSpec, Length};
+use iso_parts::{BitmapCoding, Coding, Digits, FieldSpec, Length};
 use std::alloc::{AllocError, Global};
 
 /// What stands before the name of a class.
@@ -35,18 +40,21 @@ fn is_right_filled(tag: &str, spec: &FieldSpec) -> bool {
     spec.coding == Coding::Bcd && can_be_odd && attribute(tag, "pad") != Some("true")
 }
 
-/// A row of digits as a track has them, with the separator.
-fn on_track(spec: FieldSpec) -> FieldSpec {
-    let class = match (spec.class, spec.coding) {
-        (CharClass::N, Coding::Bcd) => CharClass::Z,
-        (CharClass::N, _) => CharClass::ZD,
-        (class, _) => class,
-    };
-    FieldSpec { class, ..spec }
+/// The row of a field of this number, with the most characters of its values.
+fn laid_out(kind: Kind, number: u16, max: u16) -> FieldSpec
+    ensures { result ≡ laid_out number (row_with kind max) }
+{
+    if TRACKS.contains(&number) {
+        on_track(kind.with(max))
+    } else {
+        kind.with(max)
+    }
 }
 
 /// The row of a field, or why it has none.
-fn row_of(tag: &str, number: u16, bytes: Bytes) -> Result<FieldSpec, &'static str> {
+fn row_of(tag: &str, number: u16, bytes: Bytes) -> Result<FieldSpec, &'static str>
+    ensures { IfOk result (λ spec. IsOfClass number bytes spec) }
+{
     let class = class_of(tag);
     let Some(max) = number_at(tag, "length") else {
         return Err("its length is no number");
@@ -54,7 +62,7 @@ fn row_of(tag: &str, number: u16, bytes: Bytes) -> Result<FieldSpec, &'static st
     let Some(kind) = kind_of(class, bytes) else {
         return Err(no_row(class));
     };
-    let spec = kind.with(max);
+    let spec = laid_out(kind, number, max);
     if spec.good().is_err() {
         return Err("its length is more than its digits can tell, or none");
     }
@@ -63,14 +71,14 @@ fn row_of(tag: &str, number: u16, bytes: Bytes) -> Result<FieldSpec, &'static st
             "an odd count of digits has its filler behind them (pad isn't true), and a row's stands in front",
         );
     }
-    if TRACKS.contains(&number) {
-        return Ok(on_track(spec));
-    }
     Ok(spec)
 }
 
 /// Takes how the type is written, or the bitmaps. Tells whether the class is one for that.
-fn take_front(imported: &mut Imported, number: u16, class: &str) -> bool {
+fn take_front(imported: &mut Imported, number: u16, class: &str) -> bool
+    ensures { TakesFront imported.old.draft imported.new.draft (mti_named number class.now)
+        (bitmap_named number class.now) result }
+{
     match (number, class) {
         (0, "IFA_NUMERIC") => imported.draft.mti = Digits::Ascii,
         (0, "IFB_NUMERIC") => imported.draft.mti = Digits::Bcd,
@@ -87,12 +95,12 @@ fn free_row(
     tag: &str,
     number: u16,
     bytes: Bytes,
-) -> Result<FieldSpec, &'static str> {
-    match number {
-        0 | 1 => Err("the type or the bitmaps aren't written so"),
-        65 | 129.. => Err("no table has a row of this number"),
-        _ if imported.has(number) => Err("an earlier field has this number"),
-        _ => row_of(tag, number, bytes),
+) -> Result<FieldSpec, &'static str>
+    ensures { IfOk result (λ spec. CanJoin imported.now.draft.rows.items number spec) }
+{
+    match imported.refusal_of(number) {
+        Some(why) => Err(why),
+        None => row_of(tag, number, bytes),
     }
 }
 
@@ -103,7 +111,9 @@ fn take_numbered(
     tag: &str,
     number: u16,
     bytes: Bytes,
-) -> Result<(), AllocError> {
+) -> Result<(), AllocError>
+    ensures { GoesOn imported.old.draft imported.new.draft }
+{
     let (class, id) = (class_of(tag), attribute(tag, "id").unwrap_or(""));
     if take_front(imported, number, class) {
         return Ok(());
@@ -120,7 +130,9 @@ fn take_field(
     imported: &mut Imported,
     tag: &str,
     bytes: Bytes,
-) -> Result<(), AllocError> {
+) -> Result<(), AllocError>
+    ensures { GoesOn imported.old.draft imported.new.draft }
+{
     let id = attribute(tag, "id").unwrap_or("?");
     if name_of(tag) == WITH_FIELDS {
         let why = "it has fields of its own, and a row has one value";
@@ -152,7 +164,9 @@ const SETTINGS: [(&str, &str); 4] = [
 ];
 
 /// Names what the packager says of all its fields and a table can't.
-fn take_settings(alloc: Global, imported: &mut Imported, tag: &str) -> Result<(), AllocError> {
+fn take_settings(alloc: Global, imported: &mut Imported, tag: &str) -> Result<(), AllocError>
+    ensures { imported.new.draft ≡ imported.old.draft }
+{
     for (name, usual) in SETTINGS {
         if let Some(value) = attribute(tag, name)
             && value != usual
@@ -173,7 +187,9 @@ fn take_tag(
     tag: &str,
     depth: usize,
     bytes: Bytes,
-) -> Result<bool, AllocError> {
+) -> Result<bool, AllocError>
+    ensures { GoesOn imported.old.draft imported.new.draft }
+{
     let name = name_of(tag);
     if depth == 0 && (name == FIELD || name == WITH_FIELDS) {
         take_field(alloc, imported, tag, bytes)?;
@@ -190,7 +206,10 @@ pub(crate) fn packager_in(
     text: &str,
     version: u8,
     bytes: Bytes,
-) -> Result<Imported, ImportFault> {
+) -> Result<Imported, ImportFault>
+    ensures draft { IfOk result (λ imported. IsDraftOf version imported.draft) }
+    ensures text { IsErrOf result NotText → ⊥ }
+{
     let mut imported = Imported::new(alloc, version);
     let (mut rest, mut depth, mut has_begun) = (text, 0usize, false);
     for _ in 0..text.len() {

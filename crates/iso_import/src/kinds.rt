@@ -1,5 +1,8 @@
 //! What a class of jPOS is in a row.
 
+ghost use Rattle.std.specs.Prelude.{◌≡◌, Some};
+ghost use Rattle.iso_import.specs.Kinds.{named_in, ascii_classes, bcd_classes, bytes_kind, kind_of, on_track, plain, row_with};
+
 use iso_parts::{CharClass, Coding, Digits, FieldSpec, Length, Pad};
 
 /// How the bytes of `IFA_LLBINARY` and `IFA_LLLBINARY` stand in a packager.
@@ -24,7 +27,9 @@ pub(crate) struct Kind {
 
 impl Kind {
     /// The row, with the most characters of its values.
-    pub(crate) fn with(self, max: u16) -> FieldSpec {
+    pub(crate) fn with(self, max: u16) -> FieldSpec
+        ensures { result ≡ row_with self max }
+    {
         FieldSpec {
             class: self.class,
             coding: self.coding,
@@ -36,7 +41,9 @@ impl Kind {
 }
 
 /// Values without padding.
-fn plain(class: CharClass, coding: Coding, length: Length) -> Option<Kind> {
+fn plain(class: CharClass, coding: Coding, length: Length) -> Option<Kind>
+    ensures { result ≡ Some (plain class coding length) }
+{
     Some(Kind {
         class,
         coding,
@@ -46,7 +53,9 @@ fn plain(class: CharClass, coding: Coding, length: Length) -> Option<Kind> {
 }
 
 /// Values in ASCII.
-fn ascii_kind(class: &str) -> Option<Kind> {
+fn ascii_kind(class: &str) -> Option<Kind>
+    ensures { result ≡ named_in ascii_classes class.now }
+{
     let (number, text) = (CharClass::N, CharClass::ANS);
     match class {
         "IF_CHAR" => Some(Kind {
@@ -68,7 +77,9 @@ fn ascii_kind(class: &str) -> Option<Kind> {
 }
 
 /// Values in BCD, or behind lengths in BCD.
-fn bcd_kind(class: &str) -> Option<Kind> {
+fn bcd_kind(class: &str) -> Option<Kind>
+    ensures { result ≡ named_in bcd_classes class.now }
+{
     let (number, text, bytes) = (CharClass::N, CharClass::ANS, CharClass::B);
     match class {
         "IFB_NUMERIC" => plain(number, Coding::Bcd, Length::Fixed),
@@ -84,7 +95,9 @@ fn bcd_kind(class: &str) -> Option<Kind> {
 }
 
 /// Bytes behind lengths in ASCII, of which a packager doesn't say how they stand.
-fn bytes_kind(class: &str, bytes: Bytes) -> Option<Kind> {
+fn bytes_kind(class: &str, bytes: Bytes) -> Option<Kind>
+    ensures { result ≡ bytes_kind bytes class.now }
+{
     let length = match class {
         "IFA_LLBINARY" => Length::LL(Digits::Ascii),
         "IFA_LLLBINARY" => Length::LLL(Digits::Ascii),
@@ -98,7 +111,9 @@ fn bytes_kind(class: &str, bytes: Bytes) -> Option<Kind> {
 }
 
 /// What a class is in a row, where its bytes are those of one.
-pub(crate) fn kind_of(class: &str, bytes: Bytes) -> Option<Kind> {
+pub(crate) fn kind_of(class: &str, bytes: Bytes) -> Option<Kind>
+    ensures { result ≡ kind_of bytes class.now }
+{
     if let Some(kind) = ascii_kind(class) {
         return Some(kind);
     }
@@ -106,6 +121,18 @@ pub(crate) fn kind_of(class: &str, bytes: Bytes) -> Option<Kind> {
         Some(kind) => Some(kind),
         None => bytes_kind(class, bytes),
     }
+}
+
+/// A row of digits as a track has them, with the separator.
+pub(crate) fn on_track(spec: FieldSpec) -> FieldSpec
+    ensures { result ≡ on_track spec }
+{
+    let class = match (spec.class, spec.coding) {
+        (CharClass::N, Coding::Bcd) => CharClass::Z,
+        (CharClass::N, _) => CharClass::ZD,
+        (class, _) => class,
+    };
+    FieldSpec { class, ..spec }
 }
 
 /// Why no row has the bytes of a class.

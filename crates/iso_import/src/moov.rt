@@ -1,22 +1,35 @@
 //! A specification of moov-io/iso8583.
 
+ghost use Rattle.std.specs.Prelude.{◌≡◌, Some, IfErr, IfOk, IsErrOf, codes};
+ghost use Rattle.serde_json.specs.Find.{get};
+ghost use Rattle.serde_json.specs.View.{view};
+ghost use Rattle.iso_parts.specs.declared.spec.FieldSpec.{FieldSpec};
+ghost use Rattle.iso_parts.specs.Spec.{IsGood};
+ghost use Rattle.iso_table.specs.Members.{whole_at};
+ghost use Rattle.iso_import.specs.declared.fault.ImportFault.TheVariants.{NotText};
+ghost use Rattle.iso_import.specs.Fields.{bitmap_coded, coded_in, mti_coded, pad_in, prefixes, row_in, said};
+ghost use Rattle.iso_import.specs.Kinds.{named_in};
+ghost use Rattle.iso_import.specs.Taken.{CanJoin, GoesOn, IsDraftOf, TakesFront};
+
 use crate::fault::ImportFault;
 use crate::kinds::Kind;
 use crate::taken::Imported;
 use iso_parts::{BitmapCoding, CharClass, Coding, Digits, FieldSpec, Length, Pad};
+use iso_table::members::text_at;
 use serde_json::{Category, Value};
 use std::alloc::{AllocError, Global};
 
 /// The text of a member; empty where there is none.
-fn text_at<'v>(field: &'v Value, member: &str) -> &'v str {
-    match field.get(member) {
-        Some(Value::String(text)) => text.as_str(),
-        _ => "",
-    }
+fn said<'v>(field: &'v Value, member: &str) -> &'v str
+    ensures { result.now ≡ said member.now (view field.now) }
+{
+    text_at(field, member).unwrap_or("")
 }
 
 /// What an encoding is in a row: the class of values of a type, and their coding.
-fn coded(type_name: &str, encoding: &str) -> Option<(CharClass, Coding)> {
+fn coded(type_name: &str, encoding: &str) -> Option<(CharClass, Coding)>
+    ensures { result ≡ coded_in type_name.now encoding.now }
+{
     match (type_name, encoding) {
         ("Numeric", "ASCII") => Some((CharClass::N, Coding::Ascii)),
         ("String", "ASCII") => Some((CharClass::ANS, Coding::Ascii)),
@@ -28,7 +41,9 @@ fn coded(type_name: &str, encoding: &str) -> Option<(CharClass, Coding)> {
 }
 
 /// What a prefix is in a row.
-fn length_of(prefix: &str) -> Option<Length> {
+fn length_of(prefix: &str) -> Option<Length>
+    ensures { result ≡ named_in prefixes prefix.now }
+{
     match prefix {
         "ASCII.Fixed" | "BCD.Fixed" | "Binary.Fixed" | "Hex.Fixed" => Some(Length::Fixed),
         "ASCII.LL" => Some(Length::LL(Digits::Ascii)),
@@ -42,11 +57,13 @@ fn length_of(prefix: &str) -> Option<Length> {
 }
 
 /// What a padding is in a row. Zeros before digits are digits of the value there.
-fn pad_of(field: &Value, class: CharClass) -> Option<Pad> {
+fn pad_of(field: &Value, class: CharClass) -> Option<Pad>
+    ensures { result ≡ pad_in class (get (codes "padding") (view field.now)) }
+{
     let Some(padding) = field.get("padding") else {
         return Some(Pad::None);
     };
-    match (text_at(padding, "type"), text_at(padding, "pad")) {
+    match (said(padding, "type"), said(padding, "pad")) {
         ("Left", "0") if class == CharClass::N => Some(Pad::None),
         ("Left", " ") => Some(Pad::Left(b' ')),
         ("Right", " ") => Some(Pad::Right(b' ')),
@@ -56,16 +73,22 @@ fn pad_of(field: &Value, class: CharClass) -> Option<Pad> {
 }
 
 /// The most characters of a field's values.
-fn most_of(field: &Value) -> Option<u16> {
+fn most_of(field: &Value) -> Option<u16>
+    ensures { result ≡ whole_at (codes "length") 65535 (view field.now) }
+{
     u16::try_from(field.get("length")?.as_u64()?).ok()
 }
 
 /// The row of a field, or why it has none.
-fn row_of(field: &Value) -> Result<FieldSpec, &'static str> {
-    let Some((class, coding)) = coded(text_at(field, "type"), text_at(field, "enc")) else {
+fn row_of(field: &Value) -> Result<FieldSpec, &'static str>
+    ensures row { IfOk result (λ spec. (row_in (view field.now) ≡ Some spec) × IsGood spec) }
+    ensures none { IfErr result (λ why. (spec : FieldSpec) → row_in (view field.now) ≡ Some spec
+        → IsGood spec → ⊥) }
+{
+    let Some((class, coding)) = coded(said(field, "type"), said(field, "enc")) else {
         return Err("no row has values of this type in this encoding");
     };
-    let Some(length) = length_of(text_at(field, "prefix")) else {
+    let Some(length) = length_of(said(field, "prefix")) else {
         return Err("no row has a length like this before its value");
     };
     let Some(pad) = pad_of(field, class) else {
@@ -89,7 +112,10 @@ fn row_of(field: &Value) -> Result<FieldSpec, &'static str> {
 }
 
 /// Takes how the type is written, or the bitmaps. Tells whether the encoding is one for that.
-fn take_front(imported: &mut Imported, number: u16, encoding: &str) -> bool {
+fn take_front(imported: &mut Imported, number: u16, encoding: &str) -> bool
+    ensures { TakesFront imported.old.draft imported.new.draft (mti_coded number encoding.now)
+        (bitmap_coded number encoding.now) result }
+{
     match (number, encoding) {
         (0, "ASCII") => imported.draft.mti = Digits::Ascii,
         (0, "BCD") => imported.draft.mti = Digits::Bcd,
@@ -100,12 +126,13 @@ fn take_front(imported: &mut Imported, number: u16, encoding: &str) -> bool {
     true
 }
 
-/// The row of a field of a number, or why it has none.
-fn numbered_row(number: u16, field: &Value) -> Result<FieldSpec, &'static str> {
-    match number {
-        0 | 1 => Err("the type or the bitmaps aren't written so"),
-        65 | 129.. => Err("no table has a row of this number"),
-        _ => row_of(field),
+/// The row of a field whose place in the table is free, or why it has none.
+fn free_row(imported: &Imported, number: u16, field: &Value) -> Result<FieldSpec, &'static str>
+    ensures { IfOk result (λ spec. CanJoin imported.now.draft.rows.items number spec) }
+{
+    match imported.refusal_of(number) {
+        Some(why) => Err(why),
+        None => row_of(field),
     }
 }
 
@@ -115,22 +142,26 @@ fn take_field(
     imported: &mut Imported,
     key: &str,
     field: &Value,
-) -> Result<(), AllocError> {
-    let what = text_at(field, "type");
+) -> Result<(), AllocError>
+    ensures { GoesOn imported.old.draft imported.new.draft }
+{
+    let what = said(field, "type");
     let Ok(number) = key.parse::<u16>() else {
         return imported.leave(alloc, key, what, "its key is no number");
     };
-    if take_front(imported, number, text_at(field, "enc")) {
+    if take_front(imported, number, said(field, "enc")) {
         return Ok(());
     }
-    match numbered_row(number, field) {
+    match free_row(imported, number, field) {
         Ok(spec) => imported.add(number, spec),
         Err(why) => imported.leave(alloc, key, what, why),
     }
 }
 
 /// The JSON value of a text.
-fn value_of(alloc: Global, text: &str) -> Result<Value, ImportFault> {
+fn value_of(alloc: Global, text: &str) -> Result<Value, ImportFault>
+    ensures { IsErrOf result NotText → ⊥ }
+{
     match Value::from_str(alloc, text) {
         Ok(value) => Ok(value),
         Err(error) if error.classify() == Category::Memory => Err(ImportFault::Memory),
@@ -146,7 +177,10 @@ pub(crate) fn specification_in(
     alloc: Global,
     text: &str,
     version: u8,
-) -> Result<Imported, ImportFault> {
+) -> Result<Imported, ImportFault>
+    ensures draft { IfOk result (λ imported. IsDraftOf version imported.draft) }
+    ensures text { IsErrOf result NotText → ⊥ }
+{
     let value = value_of(alloc, text)?;
     let Some(Value::Object(fields)) = value.get("fields") else {
         return Err(ImportFault::NoFields);

@@ -1,0 +1,6 @@
+-- While settings are looked at, the draft stays as it was.
+use Rattle.std.proofs.Common.{◌≡◌}
+use Rattle.iso_import.proofs.jpos.take_settings.Given as goal
+
+abbrev pub invariant-loop-name : goal.invariant-loop-name
+invariant-loop-name l = l.imported.draft ≡ l.initial.imported.draft
