@@ -1,14 +1,13 @@
 -- Rows that stand in a table, and one more.
-use Rattle.std.proofs.Common.{◌≡◌, ◌∙◌, ℕ, Bool, true, false, ◌||◌, List, [], ◌∷◌, ◌++◌, Result, Ok, Err, sym, subst, refl}
+use Rattle.std.proofs.Common.{◌≡◌, ◌∙◌, ℕ, Bool, true, false, ◌||◌, List, [], ◌∷◌, ◌++◌, Result, Ok, Err, sym, ap, subst, refl}
 use Rattle.std.specs.Prelude.{◌≢◌, ◌==◌, IsTrue, OnOk, IsErr}
 use Rattle.std.proofs.lemmas.Bool.{eqb-false}
 use Rattle.iso_parts.specs.Numbers.{is_element}
 use Rattle.iso_parts.specs.Spec.{IsGood}
 use Rattle.iso_parts.specs.declared.spec.FieldSpec.{FieldSpec}
-use Rattle.iso_table.specs.declared.draft.Draft.{Draft}
 use Rattle.iso_table.specs.declared.draft.Row.{Row}
-use Rattle.iso_table.specs.Accepted.{AreRows, OtherNumbers, HasEachOnce}
-use Rattle.iso_import.specs.Taken.{has_number, CanJoin, CanStand, GoesOn}
+use Rattle.iso_table.specs.Accepted.{AreRows, DraftContents, OtherNumbers, HasEachOnce}
+use Rattle.iso_import.specs.Taken.{has_number, with_row, CanJoin, CanStand, GoesOn}
 
 -- one more row that is good
 good-more : (rows : List Row) (r : Row) → AreRows rows → IsTrue (is_element r.number) → IsGood r.spec
@@ -45,17 +44,14 @@ stand-more rows number spec can stand = record {
 }
 
 -- the draft goes on, whether or not there was room for the row
-pub joins : {A E : Type 0} → (first old new : Draft) (number : ℕ) (spec : FieldSpec) (result : Result A E)
-    → old.version ≡ first.version → old.rows ≡ first.rows → CanJoin old.rows.items number spec
-    → new.version ≡ old.version
-    → OnOk result (new.rows.items ≡ old.rows.items ++ record { number = number; spec = spec } ∷ [])
-    → (IsErr result → new.rows.items ≡ old.rows.items) → GoesOn first new
-joins first old new number spec (Ok a) version rows can same row refused = record {
-  version = same ∙ version;
-  rows = λ stand. subst CanStand (sym row)
-      (stand-more old.rows.items number spec can (subst (λ rs. CanStand rs.items) (sym rows) stand));
+pub joins : {A E : Type 0} → (first old new : DraftContents) (number : ℕ) (spec : FieldSpec) (result : Result A E)
+    → old.version ≡ first.version → old.rows ≡ first.rows → CanJoin old.rows number spec
+    → OnOk result (new ≡ with_row old number spec) → (IsErr result → new ≡ old) → GoesOn first new
+joins first old new number spec (Ok a) version rows can row refused = record {
+  version = ap (λ d. d.version) row ∙ version;
+  rows = λ stand. subst CanStand (sym (ap (λ d. d.rows) row)) (stand-more old.rows number spec can (subst CanStand (sym rows) stand));
 }
-joins first old new number spec (Err e) version rows can same row refused = record {
-  version = same ∙ version;
-  rows = λ stand. subst CanStand (sym (refused refl)) (subst (λ rs. CanStand rs.items) (sym rows) stand);
+joins first old new number spec (Err e) version rows can row refused = record {
+  version = ap (λ d. d.version) (refused refl) ∙ version;
+  rows = λ stand. subst CanStand (sym (ap (λ d. d.rows) (refused refl))) (subst CanStand (sym rows) stand);
 }

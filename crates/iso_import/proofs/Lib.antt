@@ -1,1 +1,3 @@
+mod Examples
 pub mod Joining
+pub mod Telling

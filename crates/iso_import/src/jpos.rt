@@ -1,9 +1,11 @@
 //! A packager of jPOS.
 
-ghost use Rattle.std.specs.Prelude.{◌≡◌, IfOk, IsErrOf};
+ghost use Rattle.std.specs.Prelude.{◌≡◌, IfErr, IfOk, IsErrOf, IsTrue};
+ghost use Rattle.iso_table.specs.Accepted.{contents};
 ghost use Rattle.iso_import.specs.declared.fault.ImportFault.TheVariants.{NotText};
 ghost use Rattle.iso_import.specs.Kinds.{IsOfClass, bitmap_named, laid_out, mti_named, row_with};
 ghost use Rattle.iso_import.specs.Taken.{CanJoin, GoesOn, IsDraftOf, TakesFront};
+ghost use Rattle.iso_import.specs.Told.{is_packager, Refuses};
 
 use crate::fault::ImportFault;
 use crate::kinds::{Bytes, Kind, kind_of, no_row, on_track};
@@ -76,8 +78,8 @@ fn row_of(tag: &str, number: u16, bytes: Bytes) -> Result<FieldSpec, &'static st
 
 /// Takes how the type is written, or the bitmaps. Tells whether the class is one for that.
 fn take_front(imported: &mut Imported, number: u16, class: &str) -> bool
-    ensures { TakesFront imported.old.draft imported.new.draft (mti_named number class.now)
-        (bitmap_named number class.now) result }
+    ensures { TakesFront (contents imported.old.draft) (contents imported.new.draft)
+        (mti_named number class.now) (bitmap_named number class.now) result }
 {
     match (number, class) {
         (0, "IFA_NUMERIC") => imported.draft.mti = Digits::Ascii,
@@ -112,7 +114,7 @@ fn take_numbered(
     number: u16,
     bytes: Bytes,
 ) -> Result<(), AllocError>
-    ensures { GoesOn imported.old.draft imported.new.draft }
+    ensures { GoesOn (contents imported.old.draft) (contents imported.new.draft) }
 {
     let (class, id) = (class_of(tag), attribute(tag, "id").unwrap_or(""));
     if take_front(imported, number, class) {
@@ -131,7 +133,7 @@ fn take_field(
     tag: &str,
     bytes: Bytes,
 ) -> Result<(), AllocError>
-    ensures { GoesOn imported.old.draft imported.new.draft }
+    ensures { GoesOn (contents imported.old.draft) (contents imported.new.draft) }
 {
     let id = attribute(tag, "id").unwrap_or("?");
     if name_of(tag) == WITH_FIELDS {
@@ -188,7 +190,7 @@ fn take_tag(
     depth: usize,
     bytes: Bytes,
 ) -> Result<bool, AllocError>
-    ensures { GoesOn imported.old.draft imported.new.draft }
+    ensures { GoesOn (contents imported.old.draft) (contents imported.new.draft) }
 {
     let name = name_of(tag);
     if depth == 0 && (name == FIELD || name == WITH_FIELDS) {
@@ -207,7 +209,8 @@ pub(crate) fn packager_in(
     version: u8,
     bytes: Bytes,
 ) -> Result<Imported, ImportFault>
-    ensures draft { IfOk result (λ imported. IsDraftOf version imported.draft) }
+    ensures draft { IfOk result (λ imported. IsDraftOf version (contents imported.draft)) }
+    ensures fault { IfErr result (λ fault. IsTrue (is_packager text.now) → Refuses text.now fault) }
     ensures text { IsErrOf result NotText → ⊥ }
 {
     let mut imported = Imported::new(alloc, version);

@@ -1,22 +1,25 @@
 //! A specification of moov-io/iso8583.
 
-ghost use Rattle.std.specs.Prelude.{◌≡◌, Some, IfErr, IfOk, IsErrOf, codes};
+ghost use Rattle.std.specs.Prelude.{◌≡◌, None, Some, false, IfErr, IfOk, IsErrOf, IsTrue, OnOk, codes};
 ghost use Rattle.serde_json.specs.Find.{get};
-ghost use Rattle.serde_json.specs.View.{view};
-ghost use Rattle.iso_parts.specs.declared.spec.FieldSpec.{FieldSpec};
+ghost use Rattle.serde_json.specs.Read.{read};
+ghost use Rattle.serde_json.specs.View.{members_view, view};
+ghost use Rattle.iso_parts.specs.Numbers.{is_element};
 ghost use Rattle.iso_parts.specs.Spec.{IsGood};
+ghost use Rattle.iso_table.specs.Accepted.{contents};
 ghost use Rattle.iso_table.specs.Members.{whole_at};
 ghost use Rattle.iso_import.specs.declared.fault.ImportFault.TheVariants.{NotText};
 ghost use Rattle.iso_import.specs.Fields.{bitmap_coded, coded_in, mti_coded, pad_in, prefixes, row_in, said};
 ghost use Rattle.iso_import.specs.Kinds.{named_in};
-ghost use Rattle.iso_import.specs.Taken.{CanJoin, GoesOn, IsDraftOf, TakesFront};
+ghost use Rattle.iso_import.specs.Taken.{CanJoin, GoesOn, has_number, IsDraftOf, TakesFront};
+ghost use Rattle.iso_import.specs.Told.{good_row_in, is_specification, IsOfFields, IsToldBy, Refuses, TakesField};
 
 use crate::fault::ImportFault;
 use crate::kinds::Kind;
 use crate::taken::Imported;
 use iso_parts::{BitmapCoding, CharClass, Coding, Digits, FieldSpec, Length, Pad};
 use iso_table::members::text_at;
-use serde_json::{Category, Value};
+use serde_json::{Category, Map, Value};
 use std::alloc::{AllocError, Global};
 
 /// The text of a member; empty where there is none.
@@ -79,11 +82,10 @@ fn most_of(field: &Value) -> Option<u16>
     u16::try_from(field.get("length")?.as_u64()?).ok()
 }
 
-/// The row of a field, or why it has none.
-fn row_of(field: &Value) -> Result<FieldSpec, &'static str>
-    ensures row { IfOk result (λ spec. (row_in (view field.now) ≡ Some spec) × IsGood spec) }
-    ensures none { IfErr result (λ why. (spec : FieldSpec) → row_in (view field.now) ≡ Some spec
-        → IsGood spec → ⊥) }
+/// The row that a field tells, good or not, or why it tells none.
+fn laid_row(field: &Value) -> Result<FieldSpec, &'static str>
+    ensures row { IfOk result (λ spec. row_in (view field.now) ≡ Some spec) }
+    ensures none { IfErr result (λ why. row_in (view field.now) ≡ None) }
 {
     let Some((class, coding)) = coded(said(field, "type"), said(field, "enc")) else {
         return Err("no row has values of this type in this encoding");
@@ -103,7 +105,16 @@ fn row_of(field: &Value) -> Result<FieldSpec, &'static str>
         length,
         pad,
     };
-    let spec = kind.with(max);
+    Ok(kind.with(max))
+}
+
+/// The good row of a field, or why it has none.
+fn row_of(field: &Value) -> Result<FieldSpec, &'static str>
+    ensures good { IfOk result (λ spec. IsGood spec) }
+    ensures row { IfOk result (λ spec. good_row_in (view field.now) ≡ Some spec) }
+    ensures none { IfErr result (λ why. good_row_in (view field.now) ≡ None) }
+{
+    let spec = laid_row(field)?;
     if spec.good().is_ok() {
         Ok(spec)
     } else {
@@ -113,8 +124,8 @@ fn row_of(field: &Value) -> Result<FieldSpec, &'static str>
 
 /// Takes how the type is written, or the bitmaps. Tells whether the encoding is one for that.
 fn take_front(imported: &mut Imported, number: u16, encoding: &str) -> bool
-    ensures { TakesFront imported.old.draft imported.new.draft (mti_coded number encoding.now)
-        (bitmap_coded number encoding.now) result }
+    ensures { TakesFront (contents imported.old.draft) (contents imported.new.draft)
+        (mti_coded number encoding.now) (bitmap_coded number encoding.now) result }
 {
     match (number, encoding) {
         (0, "ASCII") => imported.draft.mti = Digits::Ascii,
@@ -128,7 +139,11 @@ fn take_front(imported: &mut Imported, number: u16, encoding: &str) -> bool
 
 /// The row of a field whose place in the table is free, or why it has none.
 fn free_row(imported: &Imported, number: u16, field: &Value) -> Result<FieldSpec, &'static str>
-    ensures { IfOk result (λ spec. CanJoin imported.now.draft.rows.items number spec) }
+    ensures free { IfOk result (λ spec. CanJoin imported.now.draft.rows.items number spec) }
+    ensures row { IfOk result (λ spec. good_row_in (view field.now) ≡ Some spec) }
+    ensures none { IfErr result (λ why. IsTrue (is_element number)
+        → has_number imported.now.draft.rows.items number ≡ false
+        → good_row_in (view field.now) ≡ None) }
 {
     match imported.refusal_of(number) {
         Some(why) => Err(why),
@@ -143,7 +158,9 @@ fn take_field(
     key: &str,
     field: &Value,
 ) -> Result<(), AllocError>
-    ensures { GoesOn imported.old.draft imported.new.draft }
+    ensures draft { GoesOn (contents imported.old.draft) (contents imported.new.draft) }
+    ensures told { OnOk result (TakesField key.now (view field.now)
+        (contents imported.old.draft) (contents imported.new.draft)) }
 {
     let what = said(field, "type");
     let Ok(number) = key.parse::<u16>() else {
@@ -160,7 +177,10 @@ fn take_field(
 
 /// The JSON value of a text.
 fn value_of(alloc: Global, text: &str) -> Result<Value, ImportFault>
-    ensures { IsErrOf result NotText → ⊥ }
+    ensures value { IfOk result (λ value. read text.now ≡ Some (view value)) }
+    ensures fault { IfErr result (λ fault. IsTrue (is_specification text.now)
+        → Refuses text.now fault) }
+    ensures text { IsErrOf result NotText → ⊥ }
 {
     match Value::from_str(alloc, text) {
         Ok(value) => Ok(value),
@@ -172,22 +192,38 @@ fn value_of(alloc: Global, text: &str) -> Result<Value, ImportFault>
     }
 }
 
+/// The table of the fields of a specification, taken in the order of their keys.
+fn taken_from(
+    alloc: Global,
+    fields: &Map<String, Value>,
+    version: u8,
+) -> Result<Imported, AllocError>
+    ensures draft { IfOk result (λ imported. IsDraftOf version (contents imported.draft)) }
+    ensures told { IfOk result (λ imported. IsToldBy (members_view fields.now.entries)
+        (contents imported.draft)) }
+{
+    let mut imported = Imported::new(alloc, version);
+    for (key, field) in fields {
+        take_field(alloc, &mut imported, key.as_str(), field)?;
+    }
+    Ok(imported)
+}
+
 /// The table of a specification.
 pub(crate) fn specification_in(
     alloc: Global,
     text: &str,
     version: u8,
 ) -> Result<Imported, ImportFault>
-    ensures draft { IfOk result (λ imported. IsDraftOf version imported.draft) }
+    ensures draft { IfOk result (λ imported. IsDraftOf version (contents imported.draft)) }
+    ensures told { IfOk result (λ imported. IsOfFields text.now (contents imported.draft)) }
+    ensures fault { IfErr result (λ fault. IsTrue (is_specification text.now)
+        → Refuses text.now fault) }
     ensures text { IsErrOf result NotText → ⊥ }
 {
     let value = value_of(alloc, text)?;
     let Some(Value::Object(fields)) = value.get("fields") else {
         return Err(ImportFault::NoFields);
     };
-    let mut imported = Imported::new(alloc, version);
-    for (key, field) in fields {
-        take_field(alloc, &mut imported, key.as_str(), field)?;
-    }
-    Ok(imported)
+    Ok(taken_from(alloc, fields, version)?)
 }

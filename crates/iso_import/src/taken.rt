@@ -1,8 +1,9 @@
 //! What was taken of another program's table.
 
-ghost use Rattle.std.specs.Prelude.{◌≡◌, ◌&&◌, not, ◌++◌, ◌∷◌, [], is_none, OnOk, IsErr};
+ghost use Rattle.std.specs.Prelude.{◌≡◌, ◌&&◌, not, is_none, OnOk, IsErr};
 ghost use Rattle.iso_parts.specs.Numbers.{is_element};
-ghost use Rattle.iso_import.specs.Taken.{has_number};
+ghost use Rattle.iso_table.specs.Accepted.{contents};
+ghost use Rattle.iso_import.specs.Taken.{has_number, nothing_taken, with_row};
 
 use iso_parts::{BitmapCoding, Digits, FieldSpec};
 use iso_table::{Draft, Row};
@@ -20,8 +21,7 @@ pub struct Imported {
 impl Imported {
     /// A table of no rows, with its type and its bitmaps in ASCII.
     pub(crate) fn new(alloc: Global, version: u8) -> Imported
-        ensures version { result.draft.version ≡ version }
-        ensures rows { result.draft.rows.items ≡ [] }
+        ensures { contents result.draft ≡ nothing_taken version }
     {
         Imported {
             draft: Draft {
@@ -36,10 +36,9 @@ impl Imported {
 
     /// Adds a row.
     pub(crate) fn add(&mut self, number: u16, spec: FieldSpec) -> Result<(), AllocError>
-        ensures version { self.new.draft.version ≡ self.old.draft.version }
-        ensures row { OnOk result (self.new.draft.rows.items
-            ≡ self.old.draft.rows.items ++ record { number = number; spec = spec } ∷ []) }
-        ensures refused { IsErr result → self.new.draft.rows.items ≡ self.old.draft.rows.items }
+        ensures row { OnOk result (contents self.new.draft
+            ≡ with_row (contents self.old.draft) number spec) }
+        ensures refused { IsErr result → contents self.new.draft ≡ contents self.old.draft }
     {
         self.draft.rows.push(Row { number, spec })?;
         Ok(())
