@@ -1,8 +1,10 @@
 #!/usr/bin/env python3
-"""Makes the constants of the page that `rumpadol page` serves from the file of the page, or says whether they are those.
+"""Makes the constants of the page that `rumpadol page` serves from the files of page/, or says whether they are those.
 
-    page-text.py            writes crates/rumpadol_page/src/text.rt
-    page-text.py --check    ends with status 1 where that file isn't what this would write
+    page-text.py            writes crates/rumpadol_page/src/text.rt and text/*.rt
+    page-text.py --check    ends with status 1 where these files aren't what this would write
+
+A line `{{NAME}}` of page.html stands for all lines of the file NAME. The page is served in such parts, one behind the other.
 """
 
 import base64
@@ -15,13 +17,15 @@ ROOT = pathlib.Path(__file__).resolve().parent.parent
 PAGE = ROOT / "page" / "page.html"
 TEXT = ROOT / "crates" / "rumpadol_page" / "src" / "text.rt"
 MOST_BYTES = 100_000
+# a line that stands for a file of page/
+NAMED = re.compile(r"^\{\{(\w+)\.(\w+)\}\}\n", re.M)
 
 
 def hashed(page, element):
     """The source of the one such element, as a content policy names it."""
     found = re.findall(rf"<{element}>(.*?)</{element}>", page, re.DOTALL)
     if len(found) != 1:
-        sys.exit(f"page-text.py: {PAGE.name} has {len(found)} elements {element}, and not one")
+        sys.exit(f"page-text.py: the page has {len(found)} elements {element}, and not one")
     sum_of = base64.b64encode(hashlib.sha256(found[0].encode()).digest()).decode()
     return f"'sha256-{sum_of}'"
 
@@ -44,30 +48,69 @@ def quoted(text):
     return '"' + text.replace("\\", "\\\\").replace('"', '\\"') + '"'
 
 
-def text_of(page):
-    """The file of the constants."""
-    return "\n".join([
-        "//! The page and its content policy: made by scripts/page-text.py from page/page.html.",
+def made_from(name):
+    """The first line of a file that is made."""
+    return f"made by scripts/page-text.py from page/{name}."
+
+
+def constants_of(html, files):
+    """The files of the constants, by their paths below the crate's src/: those of the named files, and the one that joins them."""
+    page = NAMED.sub(lambda it: files[it[1], it[2]], html)
+    modules, parts, at = [], [], 0
+    for found in NAMED.finditer(html):
+        if html[at : found.start()]:
+            parts.append(quoted(html[at : found.start()]))
+        parts.append(f"{found[1]}::TEXT")
+        modules.append(found[1])
+        at = found.end()
+    parts.append(quoted(html[at:]))
+    made = {f"text/{name}.rt": part_of(name, kind, files[name, kind]) for name, kind in files}
+    made["text.rt"] = "\n".join([
+        f"//! The page and its content policy: {made_from(PAGE.name)}",
+        "",
+        *[f"mod {name};" for name in sorted(modules)],
         "",
         "/// The content policy of each answer.",
         "pub(crate) const POLICY: &str =",
         f"    {quoted(policy_of(page))};",
         "",
-        "/// The page.",
-        f"pub(crate) const PAGE: &str = {quoted(page)};",
+        "/// The page, part by part.",
+        "pub(crate) const PAGE: &[&str] = &[",
+        *[f"    {part}," for part in parts],
+        "];",
+        "",
+    ])
+    return page, made
+
+
+def part_of(name, kind, text):
+    """The file of the constant of one part."""
+    return "\n".join([
+        f"//! A part of the page: {made_from(f'{name}.{kind}')}",
+        "",
+        "/// The part.",
+        f"pub(crate) const TEXT: &str = {quoted(text)};",
         "",
     ])
 
 
 def main():
-    page = PAGE.read_text()
+    html = PAGE.read_text()
+    files = {(name, kind): PAGE.with_name(f"{name}.{kind}").read_text() for name, kind in NAMED.findall(html)}
+    page, made = constants_of(html, files)
     if len(page.encode()) > MOST_BYTES or not page.isascii():
-        sys.exit(f"page-text.py: {PAGE.name} is longer than {MOST_BYTES} bytes, or has a character beyond ASCII")
-    made = text_of(page)
+        sys.exit(f"page-text.py: the page is longer than {MOST_BYTES} bytes, or has a character beyond ASCII")
+    here = {str(it.relative_to(TEXT.parent)) for it in [TEXT, *TEXT.with_suffix("").glob("*.rt")] if it.exists()}
     if "--check" not in sys.argv[1:]:
-        TEXT.write_text(made)
-    elif TEXT.read_text() != made:
-        sys.exit(f"page-text.py: {TEXT.relative_to(ROOT)} isn't made from {PAGE.name}: run scripts/page-text.py")
+        TEXT.with_suffix("").mkdir(exist_ok=True)
+        for name, text in made.items():
+            (TEXT.parent / name).write_text(text)
+        for name in here - made.keys():
+            (TEXT.parent / name).unlink()
+        return
+    stale = sorted(name for name in here | made.keys() if name not in here or (TEXT.parent / name).read_text() != made.get(name))
+    if stale:
+        sys.exit(f"page-text.py: {TEXT.parent.relative_to(ROOT)}/{stale[0]} isn't made from page/: run scripts/page-text.py")
 
 
 if __name__ == "__main__":

@@ -59,7 +59,10 @@ fn put_page(response: &mut Response) -> Result<(), AllocError> {
         header::CONTENT_TYPE,
         HeaderValue::from_static("text/html; charset=utf-8"),
     )?;
-    response.body.push(Bytes::from_static(PAGE.as_bytes()))
+    for part in PAGE {
+        response.body.push(Bytes::from_static(part.as_bytes()))?;
+    }
+    Ok(())
 }
 
 /// Makes the response an answer in JSON.
