@@ -7,7 +7,7 @@ use Rattle.iso_parts.specs.declared.digits.Digits.TheVariants as digits
 use Rattle.iso_parts.specs.declared.encoding.Coding.TheVariants as codings
 use Rattle.iso_parts.specs.declared.padding.Pad.TheVariants as pads
 use Rattle.iso_parts.specs.declared.prefix.Length.TheVariants as lengths
-use Rattle.iso_import.specs.Told.{bitmap_told, first_told, last_told, mti_told, number_in}
+use Rattle.iso_import.specs.Told.{bitmap_told, first_told, mti_told, number_in, row_told}
 
 -- zeros in front, or a plus, change no number
 zeros_in_front : number_in (codes "002") ≡ Some 2
@@ -37,18 +37,18 @@ numeric encoding length = object (member (codes "enc") (string encoding)
 abbrev fields : Members
 fields = member (codes "0") (numeric (codes "BCD") 4)
     (member (codes "03") (numeric (codes "ASCII") 6)
-    (member (codes "1") (object (member (codes "enc") (string (codes "Binary")) no_members))
+    (member (codes "1") (numeric (codes "Binary") 8)
     (member (codes "3") (numeric (codes "ASCII") 4)
     (member (codes "4") (numeric (codes "ASCII") 1000) no_members))))
 
-type_in_bcd : last_told mti_told digits.Ascii fields ≡ digits.Bcd
+type_in_bcd : first_told mti_told fields ≡ Some digits.Bcd
 type_in_bcd = refl
 
-bitmaps_in_bytes : last_told bitmap_told bitmaps.Hex fields ≡ bitmaps.Raw
+bitmaps_in_bytes : first_told bitmap_told fields ≡ Some bitmaps.Raw
 bitmaps_in_bytes = refl
 
 -- the first of two stands
-first_of_two : first_told 3 fields ≡ Some (record {
+first_of_two : first_told (row_told 3) fields ≡ Some (record {
   class = classes.N;
   coding = codings.Ascii;
   length = lengths.Fixed;
@@ -58,8 +58,8 @@ first_of_two : first_told 3 fields ≡ Some (record {
 first_of_two = refl
 
 -- no row has so many characters, and none is of element 5
-too_long : first_told 4 fields ≡ None
+too_long : first_told (row_told 4) fields ≡ None
 too_long = refl
 
-not_there : first_told 5 fields ≡ None
+not_there : first_told (row_told 5) fields ≡ None
 not_there = refl

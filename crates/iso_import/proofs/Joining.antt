@@ -1,13 +1,15 @@
 -- Rows that stand in a table, and one more.
-use Rattle.std.proofs.Common.{◌≡◌, ◌∙◌, ℕ, Bool, true, false, ◌||◌, List, [], ◌∷◌, ◌++◌, Result, Ok, Err, sym, ap, subst, refl}
+use Rattle.std.proofs.Common.{◌≡◌, ◌∙◌, ℕ, Bool, true, false, ◌||◌, List, [], ◌∷◌, ◌++◌, Result, Ok, Err, inl, inr, sym, ap, subst, refl}
 use Rattle.std.specs.Prelude.{◌≢◌, ◌==◌, IsTrue, OnOk, IsErr}
 use Rattle.std.proofs.lemmas.Bool.{eqb-false}
 use Rattle.iso_parts.specs.Numbers.{is_element}
 use Rattle.iso_parts.specs.Spec.{IsGood}
 use Rattle.iso_parts.specs.declared.spec.FieldSpec.{FieldSpec}
 use Rattle.iso_table.specs.declared.draft.Row.{Row}
-use Rattle.iso_table.specs.Accepted.{AreRows, DraftContents, OtherNumbers, HasEachOnce}
-use Rattle.iso_import.specs.Taken.{has_number, with_row, CanJoin, CanStand, GoesOn}
+use Rattle.iso_table.specs.Accepted.{AreRows, OtherNumbers, HasEachOnce}
+use Rattle.iso_import.specs.declared.kinds.Bytes.{Bytes}
+use Rattle.iso_import.specs.Kinds.{AreOfClasses, IsOfClass}
+use Rattle.iso_import.specs.Found.{has_number, with_row, CanJoin, CanStand, GoOn, Found}
 
 -- one more row that is good
 good-more : (rows : List Row) (r : Row) → AreRows rows → IsTrue (is_element r.number) → IsGood r.spec
@@ -37,21 +39,36 @@ once-more (q ∷ qs) r once free =
 
 -- a row that can stand beside the others
 stand-more : (rows : List Row) (number : ℕ) (spec : FieldSpec) → CanJoin rows number spec → CanStand rows
-    → CanStand (rows ++ record { number = number; spec = spec } ∷ [])
+    → CanStand (with_row rows number spec)
 stand-more rows number spec can stand = record {
   good = good-more rows (record { number = number; spec = spec }) stand.good can.element can.good;
   once = once-more rows (record { number = number; spec = spec }) stand.once can.free;
 }
 
--- the draft goes on, whether or not there was room for the row
-pub joins : {A E : Type 0} → (first old new : DraftContents) (number : ℕ) (spec : FieldSpec) (result : Result A E)
-    → old.version ≡ first.version → old.rows ≡ first.rows → CanJoin old.rows number spec
-    → OnOk result (new ≡ with_row old number spec) → (IsErr result → new ≡ old) → GoesOn first new
-joins first old new number spec (Ok a) version rows can row refused = record {
-  version = ap (λ d. d.version) row ∙ version;
-  rows = λ stand. subst CanStand (sym (ap (λ d. d.rows) row)) (stand-more old.rows number spec can (subst CanStand (sym rows) stand));
-}
-joins first old new number spec (Err e) version rows can row refused = record {
-  version = ap (λ d. d.version) (refused refl) ∙ version;
-  rows = λ stand. subst CanStand (sym (ap (λ d. d.rows) (refused refl))) (subst CanStand (sym rows) stand);
-}
+-- rows that go on can stand in a table, as they could before
+pub stand_on : (Holds : ℕ → FieldSpec → Type 0) (old new : List Row) → GoOn Holds old new → CanStand old → CanStand new
+stand_on Holds old new (inl same) stand = subst CanStand (sym same) stand
+stand_on Holds old new (inr joins) stand = subst CanStand (sym joins.joined) (stand-more old joins.number joins.spec joins.can stand)
+
+classes-more : (stand : Bytes) (rows : List Row) (number : ℕ) (spec : FieldSpec) → IsOfClass stand number spec
+    → AreOfClasses stand rows → AreOfClasses stand (with_row rows number spec)
+classes-more stand [] number spec is are = (is, tt)
+classes-more stand (r ∷ rs) number spec is are = (are.0, classes-more stand rs number spec is are.1)
+
+-- rows that go on are as classes have them, as they were before
+pub classes_on : (stand : Bytes) (old new : List Row) → GoOn (IsOfClass stand) old new → AreOfClasses stand old → AreOfClasses stand new
+classes_on stand old new (inl same) are = subst (AreOfClasses stand) (sym same) are
+classes_on stand old new (inr joins) are = subst (AreOfClasses stand) (sym joins.joined) (classes-more stand old joins.number joins.spec joins.holds are)
+
+-- rows go on, whether or not there was room for one more
+pub joins : {A E : Type 0} → (Holds : ℕ → FieldSpec → Type 0) (first old new : Found) (number : ℕ) (spec : FieldSpec) (result : Result A E)
+    → old.rows ≡ first.rows → Holds number spec → CanJoin old.rows number spec
+    → OnOk result (new ≡ record old { rows = with_row old.rows number spec }) → (IsErr result → new ≡ old) → GoOn Holds first.rows new.rows
+joins Holds first old new number spec (Ok a) same holds can row refused = inr (record {
+  number = number;
+  spec = spec;
+  holds = holds;
+  can = subst (λ rs. CanJoin rs number spec) same can;
+  joined = ap (λ f. f.rows) row ∙ ap (λ rs. with_row rs number spec) same;
+})
+joins Holds first old new number spec (Err e) same holds can row refused = inl (ap (λ f. f.rows) (refused refl) ∙ same)

@@ -1,18 +1,19 @@
 -- What fields tell, one after the other.
-use Rattle.std.proofs.Common.{◌≡◌, ◌∙◌, ◌<◌, ◌^◌, ◌==◌, ◌&&◌, ◌||◌, ℕ, Bool, true, false, List, [], ◌∷◌, ◌++◌, length, Option, Some, None, Result, Ok, Err, OnOk, IsOk, is_ok, sym, ap, subst, refl, true≢false, nat_lt, lt-ltb, ltb-true, eqb-true, is_some, IsTrue, if◌then◌else◌, codes}
-use Rattle.std.specs.Prelude.{unwrap_or}
+use Rattle.std.proofs.Common.{◌≡◌, ◌∙◌, ◌<◌, ◌+◌, ◌^◌, arith, ◌==◌, ◌&&◌, ◌||◌, ℕ, suc, Bool, true, false, List, [], ◌∷◌, ◌++◌, length, Option, Some, None, Result, Ok, Err, OnOk, IfErr, is_ok, sym, ap, subst, refl, true≢false, nat_lt, lt-ltb, ltb-true, eqb-true, is_none, is_some, IsTrue, if◌then◌else◌}
 use Rattle.std.specs.Option.{option_or}
 use Rattle.std.specs.Char.{is_digit}
 use Rattle.std.specs.Str.Parse.{AllDigits, IsNumeral, digits_value, without_leading_plus}
 use Rattle.serde_json.specs.Data.{Data}
 use Rattle.iso_parts.specs.Numbers.{is_element}
-use Rattle.iso_parts.specs.Spec.{IsGood, is_coded, is_good_max, is_good_pad}
+use Rattle.iso_parts.specs.Spec.{spec_fault}
 use Rattle.iso_parts.specs.declared.spec.FieldSpec.{FieldSpec}
+use Rattle.iso_parts.specs.declared.spec.SpecFault.{SpecFault}
 use Rattle.iso_table.specs.declared.draft.Row.{Row}
-use Rattle.iso_table.specs.Accepted.{DraftContents, row_of}
-use Rattle.iso_import.specs.Fields.{bitmap_coded, mti_coded, said}
-use Rattle.iso_import.specs.Taken.{has_number, with_row, TakesFront}
-use Rattle.iso_import.specs.Told.{are_digits, bitmap_told, good_row, good_row_in, mti_told, number_in, number_of, row_told, TakesField}
+use Rattle.iso_table.specs.Accepted.{row_of}
+use Rattle.iso_import.specs.Fields.{bitmap_coded, mti_coded}
+use Rattle.iso_import.specs.Found.{has_number, with_row, Found, TakesFront}
+use Rattle.iso_import.specs.Told.{are_digits, bitmap_told, good_row, good_row_in, mti_told, number_in, number_of, row_told}
+use Rattle.iso_import.specs.Step.{TakesField}
 
 -- ---- the number that a key writes
 
@@ -54,18 +55,10 @@ no-number-read key none = unwritten (without_leading_plus key) none
 -- ---- a good row
 
 -- a row with something wrong is no good one
-pub no-good-row : (spec : FieldSpec) → (IsGood spec → ⊥) → good_row spec ≡ None
-no-good-row spec bad = by (is_good_max spec) (is_coded spec.coding spec.class) (is_good_pad spec spec.pad) refl refl refl where
-  by : (max coded pad : Bool) → is_good_max spec ≡ max → is_coded spec.coding spec.class ≡ coded → is_good_pad spec spec.pad ≡ pad
-      → (if max && coded && pad then Some spec else None) ≡ None
-  by false coded pad is-max is-coded is-pad = refl
-  by true false pad is-max is-coded is-pad = refl
-  by true true false is-max is-coded is-pad = refl
-  by true true true is-max is-coded is-pad = absurd (bad (record { max = is-max; coding = is-coded; pad = is-pad }))
-
-pub not-ok : {A E : Type 0} → (r : Result A E) → is_ok r ≡ false → IsOk r → ⊥
-not-ok (Ok a) is-not is = true≢false is-not
-not-ok (Err e) is-not is = true≢false (sym is)
+pub no-good-row : {A : Type 0} → (spec : FieldSpec) (r : Result A SpecFault) → is_ok r ≡ false → IfErr r (λ e. spec_fault spec ≡ Some e)
+    → good_row spec ≡ None
+no-good-row spec (Ok a) is-not fault = absurd (true≢false is-not)
+no-good-row spec (Err e) is-not fault = rw fault refl
 
 -- ---- rows by their numbers
 
@@ -94,13 +87,23 @@ row-first (q ∷ qs) n o has = by (q.number == n) has (row-first qs n o) where
   by false has rest = rest has
 
 -- a number that says how the type or the bitmaps are written is no element's
-no-element : (number : ℕ) (text : List ℕ) → (is_some (mti_coded number text) || is_some (bitmap_coded number text)) ≡ true
+no-element : (number : ℕ) (field : Data) → (is_some (mti_coded number field) || is_some (bitmap_coded number field)) ≡ true
     → is_element number ≡ false
-no-element number text front = by (number == 0) (number == 1) refl refl where
+no-element number field front = by (number == 0) (number == 1) refl refl where
   by : (first second : Bool) → (number == 0) ≡ first → (number == 1) ≡ second → is_element number ≡ false
   by true second is-first is-second = ap is_element (eqb-true number 0 is-first)
   by false true is-first is-second = ap is_element (eqb-true number 1 is-second)
   by false false is-first is-second = absurd (true≢false (sym front ∙ rw is-first (rw is-second refl)))
+
+-- what is newly taken was told
+told-new : (m b n o : Bool) → ((m && n) || (b && o)) ≡ true → (n || o) ≡ true
+told-new m b true o is = refl
+told-new m true false o is = by m is where
+  by : (m : Bool) → ((m && false) || o) ≡ true → o ≡ true
+  by true is = is
+  by false is = is
+told-new true false false o is = absurd (true≢false (sym is))
+told-new false false false o is = absurd (true≢false (sym is))
 
 pub on-ok : {A E : Type 0} {P : Type 0} → (r : Result A E) → P → OnOk r P
 on-ok (Ok a) p = p
@@ -114,25 +117,25 @@ on-ok-as (Err e) turn p = tt
 
 module _ (key : List ℕ) (field : Data) where
   -- a key that writes no number
-  pub no-number : (d : DraftContents) → number_in key ≡ None → TakesField key field d d
-  no-number d is = record {
-    mti = rw is refl;
-    bitmap = rw is refl;
-    rows = λ n element. rw is (sym (or-none (row_of d.rows n)));
+  pub no-number : (f : Found) → number_in key ≡ None → TakesField key field f f
+  no-number f is = record {
+    mti = rw is (sym (or-none f.mti));
+    bitmap = rw is (sym (or-none f.bitmap));
+    rows = λ n element. rw is (sym (or-none (row_of f.rows n)));
   }
 
-  module _ (number : ℕ) (is : number_in key ≡ Some number) (old mid : DraftContents) (taken : Bool)
-      (front : TakesFront old mid (mti_coded number (said (codes "enc") field)) (bitmap_coded number (said (codes "enc") field)) taken) where
+  module _ (number : ℕ) (is : number_in key ≡ Some number) (old mid : Found) (taken : Bool)
+      (front : TakesFront old mid (mti_coded number field) (bitmap_coded number field) taken) where
     -- how the type and the bitmaps are written is as the field says
-    mti-is : mid.mti ≡ unwrap_or (mti_told key field) old.mti
+    mti-is : mid.mti ≡ option_or old.mti (mti_told key field)
     mti-is = rw is front.mti
 
-    bitmap-is : mid.bitmap ≡ unwrap_or (bitmap_told key field) old.bitmap
+    bitmap-is : mid.bitmap ≡ option_or old.bitmap (bitmap_told key field)
     bitmap-is = rw is front.bitmap
 
     -- such a field tells no row
     pub front-taken : taken ≡ true → TakesField key field old mid
-    front-taken is-front = record {
+    front-taken is-new = record {
       mti = mti-is;
       bitmap = bitmap-is;
       rows = λ n element. ap (λ rs. row_of rs n) front.rows ∙ sym (ap (option_or (row_of old.rows n)) (none n element (number == n) refl) ∙ or-none (row_of old.rows n));
@@ -140,7 +143,8 @@ module _ (key : List ℕ) (field : Data) where
       none : (n : ℕ) → IsTrue (is_element n) → (same : Bool) → (number == n) ≡ same → row_told n key field ≡ None
       none n element false differs = rw is (rw differs refl)
       none n element true same =
-          absurd (cc (no-element number (said (codes "enc") field) (sym front.taken ∙ is-front), element, eqb-true number n same))
+          let said = told-new (is_none old.mti) (is_none old.bitmap) (is_some (mti_coded number field)) (is_some (bitmap_coded number field)) (sym front.taken ∙ is-new) in
+          absurd (cc (no-element number field said, element, eqb-true number n same))
 
     -- a row that isn't free, or isn't good, changes nothing
     pub left-out : (IsTrue (is_element number) → has_number mid.rows number ≡ false → good_row_in field ≡ None) → TakesField key field old mid
@@ -160,7 +164,7 @@ module _ (key : List ℕ) (field : Data) where
           rw is (rw same (rw good (or-none (row_of old.rows n))))
 
     -- a row that is free joins the others
-    pub row-joined : (spec : FieldSpec) → good_row_in field ≡ Some spec → TakesField key field old (with_row mid number spec)
+    pub row-joined : (spec : FieldSpec) → good_row_in field ≡ Some spec → TakesField key field old (record mid { rows = with_row mid.rows number spec })
     row-joined spec good = record {
       mti = mti-is;
       bitmap = bitmap-is;
@@ -170,3 +174,17 @@ module _ (key : List ℕ) (field : Data) where
     } where
       as-told : (n : ℕ) → row_told n key field ≡ (if number == n then Some spec else None)
       as-told n = rw is (rw good refl)
+
+-- ---- one field after the other
+
+or-assoc : {A : Type 0} → (a b c : Option A) → option_or (option_or a b) c ≡ option_or a (option_or b c)
+or-assoc None b c = refl
+or-assoc (Some a) b c = refl
+
+-- what was found, one more field, and the rest
+pub told-on : {A : Type 0} → (all now new one rest : Option A) → all ≡ option_or now (option_or one rest) → new ≡ option_or now one → all ≡ option_or new rest
+told-on all now new one rest is step = is ∙ sym (or-assoc now one rest) ∙ ap (λ o. option_or o rest) (sym step)
+
+-- one field more was found or left, and the rest is one shorter
+pub counted-on : (old new rest all : ℕ) → old + (rest + 1) ≡ all → new ≡ suc old → new + rest ≡ all
+counted-on old new rest all are step = omega (arith, are, step)

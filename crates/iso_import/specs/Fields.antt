@@ -19,18 +19,6 @@ use Rattle.iso_parts.specs.declared.spec.FieldSpec.{FieldSpec}
 use Rattle.iso_table.specs.Members.{text_at, whole_at, ◌>>=◌}
 use Rattle.iso_import.specs.Kinds.{Named, named_in}
 
--- field 0 is the message type, and its encoding says how its digits are written
-abbrev pub mti_coded : ℕ → List ℕ → Option Digits
-mti_coded number encoding = if number == 0 then named_in
-    ((codes "ASCII", digits.Ascii) ∷ (codes "BCD", digits.Bcd) ∷ []) encoding
-    else None
-
--- field 1 is the bitmaps, and its encoding says how they are written
-abbrev pub bitmap_coded : ℕ → List ℕ → Option BitmapCoding
-bitmap_coded number encoding = if number == 1 then named_in
-    ((codes "HexToASCII", bitmaps.Hex) ∷ (codes "Binary", bitmaps.Raw) ∷ []) encoding
-    else None
-
 -- what values of a type are, and how an encoding writes them
 abbrev pub coded_in : List ℕ → List ℕ → Option (CharClass × Coding)
 coded_in type encoding =
@@ -42,7 +30,7 @@ coded_in type encoding =
     ((codes "Binary", (B, codings.Raw)) ∷ (codes "HexToASCII", (B, codings.HexText)) ∷ []) encoding
     else None
 
--- the lengths that a prefix tells
+-- the prefixes, and the length that each tells
 abbrev pub prefixes : List (Named Length)
 prefixes =
     (codes "ASCII.Fixed", lengths.Fixed)
@@ -57,7 +45,7 @@ prefixes =
     ∷ (codes "BCD.LLLL", lengths.LLLL digits.Bcd)
     ∷ []
 
--- what a member says; nothing where it is no text, or isn't there
+-- what a member says; the empty text where it is no text, or isn't there
 abbrev pub said : List ℕ → Data → List ℕ
 said key field = unwrap_or (text_at key field) []
 
@@ -96,3 +84,31 @@ row_in field =
       max = max;
       pad = pad;
     })
+
+-- ---- the type and the bitmaps
+
+-- whether it is a length that no prefix tells
+abbrev pub is_untold : Option Length → Bool
+is_untold (Some lengths.Fixed) = true
+is_untold other = false
+
+-- whether a field's values all have one length
+abbrev pub is_fixed : Data → Bool
+is_fixed field = is_untold (named_in prefixes (said (codes "prefix") field))
+
+-- the most characters of a field's values, 0 where that is no number
+abbrev pub most_of : Data → ℕ
+most_of field = unwrap_or (whole_at (codes "length") 65535 field) 0
+
+-- field 0 is the message type: four digits, and its encoding says how they are written
+abbrev pub mti_coded : ℕ → Data → Option Digits
+mti_coded number field = if number == 0 && is_fixed field && most_of field == 4 then named_in
+    ((codes "ASCII", digits.Ascii) ∷ (codes "BCD", digits.Bcd) ∷ []) (said (codes "enc") field)
+    else None
+
+-- field 1 is the bitmaps, and its encoding says how they are written
+abbrev pub bitmap_coded : ℕ → Data → Option BitmapCoding
+bitmap_coded number field = if number == 1 && is_fixed field then named_in
+    ((codes "HexToASCII", bitmaps.Hex) ∷ (codes "Binary", bitmaps.Raw) ∷ [])
+    (said (codes "enc") field)
+    else None

@@ -15,6 +15,8 @@ use Rattle.iso_parts.specs.declared.bitmap.BitmapCoding.{BitmapCoding}
 use Rattle.iso_parts.specs.declared.bitmap.BitmapCoding.TheVariants as bitmaps
 use Rattle.iso_parts.specs.declared.spec.FieldSpec.{FieldSpec}
 use Rattle.iso_parts.specs.Spec.{IsGood}
+use Rattle.iso_table.specs.declared.draft.Row.{Row}
+use Rattle.iso_table.specs.Members.{◌>>=◌}
 use Rattle.iso_import.specs.declared.kinds.Kind.{Kind}
 use Rattle.iso_import.specs.declared.kinds.Bytes.{Bytes}
 use Rattle.iso_import.specs.declared.kinds.Bytes.TheVariants as bytes
@@ -25,7 +27,7 @@ Named A = List ℕ × A
 
 -- what a name is here, if it is one of these
 abbrev pub named_in : {A : Type 0} → List (Named A) → List ℕ → Option A
-named_in rows name = option_map (λ row. row.1) (find (λ row. bytes_eq name row.0) rows)
+named_in names name = option_map (λ one. one.1) (find (λ one. bytes_eq name one.0) names)
 
 -- ---- a packager of jPOS
 
@@ -83,21 +85,16 @@ coding_of bytes.Unknown = None
 coding_of bytes.Hex = Some codings.HexText
 coding_of bytes.Raw = Some codings.Raw
 
--- values of bytes, where both their coding and their length are known
-abbrev pub bytes_by : Option Coding → Option Length → Option Kind
-bytes_by (Some coding) (Some length) = Some (plain B coding length)
-bytes_by (Some coding) None = None
-bytes_by None length = None
-
--- what a class is, where it is one of these
+-- bytes behind a length in ASCII, where their coding is known
 abbrev pub bytes_kind : Bytes → List ℕ → Option Kind
-bytes_kind stand class = bytes_by (coding_of stand) (named_in bytes_lengths class)
+bytes_kind stand name = coding_of stand >>= λ coding. named_in bytes_lengths name
+    >>= λ length. Some (plain B coding length)
 
--- what a class is in a row, where its bytes are those of one
+-- what a class of that name is in a row, where an odd count of BCD digits is filled in front
 abbrev pub kind_of : Bytes → List ℕ → Option Kind
-kind_of stand class =
-    option_or (named_in ascii_classes class)
-    (option_or (named_in bcd_classes class) (bytes_kind stand class))
+kind_of stand name =
+    option_or (named_in ascii_classes name)
+    (option_or (named_in bcd_classes name) (bytes_kind stand name))
 
 -- the row, with the most characters of its values
 abbrev pub row_with : Kind → ℕ → FieldSpec
@@ -120,27 +117,32 @@ on_track s = record {
   pad = s.pad;
 }
 
--- fields 35 and 36 are tracks
+-- the row of that number: of 35 and 36, track 2 and track 3, that of a track
 abbrev pub laid_out : ℕ → FieldSpec → FieldSpec
 laid_out number s = if number == 35 || number == 36 then on_track s else s
 
--- a good row of that number, as a class has it
-pub record IsOfClass (number : ℕ) (stand : Bytes) (spec : FieldSpec) : Type 0 where
-  pub class : List ℕ
+-- a good row of that number, as a class of jPOS has it
+pub record IsOfClass (stand : Bytes) (number : ℕ) (spec : FieldSpec) : Type 0 where
+  pub name : List ℕ
   pub kind : Kind
   pub max : ℕ
-  pub named : kind_of stand class ≡ Some kind
+  pub named : kind_of stand name ≡ Some kind
   pub laid : spec ≡ laid_out number (row_with kind max)
   pub good : IsGood spec
 
+-- each row is as a class of jPOS has it
+abbrev pub AreOfClasses : Bytes → List Row → Type 0
+AreOfClasses stand [] = Unit {0}
+AreOfClasses stand (r ∷ rs) = IsOfClass stand r.number r.spec × AreOfClasses stand rs
+
 -- field 0 is the message type, and its class says how its digits are written
 abbrev pub mti_named : ℕ → List ℕ → Option Digits
-mti_named number class = if number == 0 then named_in
-    ((codes "IFA_NUMERIC", digits.Ascii) ∷ (codes "IFB_NUMERIC", digits.Bcd) ∷ []) class
+mti_named number name = if number == 0 then named_in
+    ((codes "IFA_NUMERIC", digits.Ascii) ∷ (codes "IFB_NUMERIC", digits.Bcd) ∷ []) name
     else None
 
 -- field 1 is the bitmaps, and its class says how they are written
 abbrev pub bitmap_named : ℕ → List ℕ → Option BitmapCoding
-bitmap_named number class = if number == 1 then named_in
-    ((codes "IFA_BITMAP", bitmaps.Hex) ∷ (codes "IFB_BITMAP", bitmaps.Raw) ∷ []) class
+bitmap_named number name = if number == 1 then named_in
+    ((codes "IFA_BITMAP", bitmaps.Hex) ∷ (codes "IFB_BITMAP", bitmaps.Raw) ∷ []) name
     else None

@@ -1,4 +1,5 @@
 pub mod Kinds
 pub mod Fields
-pub mod Taken
+pub mod Found
 pub mod Told
+pub mod Step

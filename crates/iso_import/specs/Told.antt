@@ -1,5 +1,6 @@
 -- What a specification of moov-io/iso8583 tells of a table, and what a fault tells of a text.
-use Rattle.std.specs.Prelude.{◌≡◌, ℕ, ◌^◌, ◌==◌, ◌&&◌, nat_lt, Bool, true, false, List, [], ◌∷◌, length, slice_index, Option, None, Some, unwrap_or, IsTrue, if◌then◌else◌, codes}
+use Rattle.std.specs.Prelude.{◌≡◌, ℕ, ◌+◌, ◌^◌, ◌==◌, ◌&&◌, nat_lt, Bool, false, List, length, slice_index, Option, None, Some, is_none, is_some, unwrap_or, IsTrue, if◌then◌else◌, codes}
+use Rattle.std.specs.List.{list_all}
 use Rattle.std.specs.Option.{option_or}
 use Rattle.std.specs.Char.{is_digit}
 use Rattle.std.specs.Str.{IsUtf8, trim_start}
@@ -8,24 +9,24 @@ use Rattle.serde_json.specs.Data.{Data, Members, no_members, member}
 use Rattle.serde_json.specs.Find.{as_object, get}
 use Rattle.serde_json.specs.Read.{read}
 use Rattle.iso_parts.specs.Numbers.{is_element}
-use Rattle.iso_parts.specs.Spec.{is_coded, is_good_max, is_good_pad}
+use Rattle.iso_parts.specs.Spec.{spec_fault}
 use Rattle.iso_parts.specs.declared.bitmap.BitmapCoding.{BitmapCoding}
 use Rattle.iso_parts.specs.declared.bitmap.BitmapCoding.TheVariants as bitmaps
 use Rattle.iso_parts.specs.declared.digits.Digits.{Digits}
 use Rattle.iso_parts.specs.declared.digits.Digits.TheVariants as digits
 use Rattle.iso_parts.specs.declared.spec.FieldSpec.{FieldSpec}
 use Rattle.iso_table.specs.Accepted.{DraftContents, row_of}
-use Rattle.iso_table.specs.Members.{◌>>=◌}
-use Rattle.iso_import.specs.Fields.{bitmap_coded, mti_coded, row_in, said}
+use Rattle.iso_table.specs.Members.{◌>>=◌, member_count}
+use Rattle.iso_import.specs.Fields.{bitmap_coded, mti_coded, row_in}
+use Rattle.iso_import.specs.Found.{one_if}
 use Rattle.iso_import.specs.declared.fault.ImportFault.{ImportFault}
 use Rattle.iso_import.specs.declared.fault.ImportFault.TheVariants as faults
 
 -- ---- one field
 
--- each character is a decimal digit
+-- decimal digits alone
 abbrev pub are_digits : List ℕ → Bool
-are_digits [] = true
-are_digits (d ∷ ds) = is_digit d 10 && are_digits ds
+are_digits ds = list_all (λ d. is_digit d 10) ds
 
 -- the number that one decimal digit or more write, below 65536
 abbrev pub number_of : List ℕ → Option ℕ
@@ -40,55 +41,47 @@ number_in key = number_of (without_leading_plus key)
 
 -- how a field says that the type is written
 abbrev pub mti_told : List ℕ → Data → Option Digits
-mti_told key field = number_in key >>= λ number. mti_coded number (said (codes "enc") field)
+mti_told key field = number_in key >>= λ number. mti_coded number field
 
 -- how a field says that the bitmaps are written
 abbrev pub bitmap_told : List ℕ → Data → Option BitmapCoding
-bitmap_told key field = number_in key >>= λ number. bitmap_coded number (said (codes "enc") field)
+bitmap_told key field = number_in key >>= λ number. bitmap_coded number field
 
--- a row that nothing is wrong with
+-- the row, where nothing is wrong with it
 abbrev pub good_row : FieldSpec → Option FieldSpec
-good_row spec =
-    if is_good_max spec && is_coded spec.coding spec.class && is_good_pad spec spec.pad
-    then Some spec
-    else None
+good_row spec = if is_none (spec_fault spec) then Some spec else None
 
 -- the good row that a field tells, whatever its number
 abbrev pub good_row_in : Data → Option FieldSpec
 good_row_in field = row_in field >>= good_row
 
--- that row, if it has this number
+-- the good row that a field tells, where its key writes this number
 abbrev pub row_told : ℕ → List ℕ → Data → Option FieldSpec
 row_told number key field =
     number_in key >>= λ told. if told == number then good_row_in field else None
 
--- ---- all fields
+-- ---- all fields, in the order of the bytes of their keys
 
--- what the last field tells that tells anything, else what stood before
-abbrev pub last_told : {A : Type 0} → (List ℕ → Data → Option A) → A → Members → A
-last_told tells before no_members = before
-last_told tells before (member key field rest) =
-    last_told tells (unwrap_or (tells key field) before) rest
-
--- the row that the first field tells that tells a good one of that number
-abbrev pub first_told : ℕ → Members → Option FieldSpec
-first_told number no_members = None
-first_told number (member key field rest) =
-    option_or (row_told number key field) (first_told number rest)
+-- what the first field tells that tells such a thing
+abbrev pub first_told : {A : Type 0} → (List ℕ → Data → Option A) → Members → Option A
+first_told tells no_members = None
+first_told tells (member key field rest) = option_or (tells key field) (first_told tells rest)
 
 -- a draft has what fields tell: the rows, and how the type and the bitmaps are written, ASCII else
 pub record IsToldBy (fields : Members) (draft : DraftContents) : Type 0 where
-  pub mti : draft.mti ≡ last_told mti_told digits.Ascii fields
-  pub bitmap : draft.bitmap ≡ last_told bitmap_told bitmaps.Hex fields
+  pub mti : draft.mti ≡ unwrap_or (first_told mti_told fields) digits.Ascii
+  pub bitmap : draft.bitmap ≡ unwrap_or (first_told bitmap_told fields) bitmaps.Hex
   pub rows : (number : ℕ) → IsTrue (is_element number)
-      → row_of draft.rows number ≡ first_told number fields
+      → row_of draft.rows number ≡ first_told (row_told number) fields
 
--- a draft into which a field was taken
-pub record TakesField (key : List ℕ) (field : Data) (old new : DraftContents) : Type 0 where
-  pub mti : new.mti ≡ unwrap_or (mti_told key field) old.mti
-  pub bitmap : new.bitmap ≡ unwrap_or (bitmap_told key field) old.bitmap
-  pub rows : (number : ℕ) → IsTrue (is_element number)
-      → row_of new.rows number ≡ option_or (row_of old.rows number) (row_told number key field)
+-- one for the type, where a field tells it, and one for the bitmaps
+abbrev pub front_count : Members → ℕ
+front_count fields =
+    one_if (is_some (first_told mti_told fields)) + one_if (is_some (first_told bitmap_told fields))
+
+-- how many fields aren't in the draft: each other one is a row, the type or the bitmaps
+abbrev pub AreLeft : Members → DraftContents → ℕ → Type 0
+AreLeft fields draft left = left + (length draft.rows + front_count fields) ≡ member_count fields
 
 -- ---- a text
 
@@ -108,13 +101,14 @@ is_packager text = begins_with 0x3C text
 abbrev pub is_specification : List ℕ → Bool
 is_specification text = begins_with 0x7B text
 
--- the text is JSON whose fields tell the draft
-pub record IsOfFields (text : List ℕ) (draft : DraftContents) : Type 0 where
+-- the text is JSON whose fields tell the draft, with a sentence for each other field
+pub record IsOfFields (text : List ℕ) (draft : DraftContents) (sentences : ℕ) : Type 0 where
   pub value : Data
   pub fields : Members
   pub reads : read text ≡ Some value
   pub found : fields_in value ≡ Some fields
   pub told : IsToldBy fields draft
+  pub left : AreLeft fields draft sentences
 
 -- why a text is refused
 abbrev pub Refuses : List ℕ → ImportFault → Type 0

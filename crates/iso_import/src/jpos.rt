@@ -3,14 +3,14 @@
 ghost use Rattle.std.specs.Prelude.{◌≡◌, IfErr, IfOk, IsErrOf, IsTrue};
 ghost use Rattle.iso_table.specs.Accepted.{contents};
 ghost use Rattle.iso_import.specs.declared.fault.ImportFault.TheVariants.{NotText};
-ghost use Rattle.iso_import.specs.Kinds.{IsOfClass, bitmap_named, laid_out, mti_named, row_with};
-ghost use Rattle.iso_import.specs.Taken.{CanJoin, GoesOn, IsDraftOf, TakesFront};
+ghost use Rattle.iso_import.specs.Kinds.{bitmap_named, laid_out, mti_named, AreOfClasses, IsOfClass};
+ghost use Rattle.iso_import.specs.Found.{CanJoin, CanStand, GoOn, IsDraftOf};
 ghost use Rattle.iso_import.specs.Told.{is_packager, Refuses};
 
 use crate::fault::ImportFault;
-use crate::kinds::{Bytes, Kind, kind_of, no_row, on_track};
+use crate::kinds::{Bytes, kind_of, no_row, on_track};
 use crate::markup::{Markup, attribute, is_empty, name_of, next_markup};
-use crate::taken::Imported;
+use crate::taken::{Imported, Taken};
 use iso_parts::{BitmapCoding, Coding, Digits, FieldSpec, Length};
 use std::alloc::{AllocError, Global};
 
@@ -42,20 +42,20 @@ fn is_right_filled(tag: &str, spec: &FieldSpec) -> bool {
     spec.coding == Coding::Bcd && can_be_odd && attribute(tag, "pad") != Some("true")
 }
 
-/// The row of a field of this number, with the most characters of its values.
-fn laid_out(kind: Kind, number: u16, max: u16) -> FieldSpec
-    ensures { result ≡ laid_out number (row_with kind max) }
+/// The row of a field of this number.
+fn laid_out(number: u16, spec: FieldSpec) -> FieldSpec
+    ensures { result ≡ laid_out number spec }
 {
     if TRACKS.contains(&number) {
-        on_track(kind.with(max))
+        on_track(spec)
     } else {
-        kind.with(max)
+        spec
     }
 }
 
-/// The row of a field, or why it has none.
-fn row_of(tag: &str, number: u16, bytes: Bytes) -> Result<FieldSpec, &'static str>
-    ensures { IfOk result (λ spec. IsOfClass number bytes spec) }
+/// The good row of a field, or why it has none.
+fn good_row_of(tag: &str, number: u16, bytes: Bytes) -> Result<FieldSpec, &'static str>
+    ensures { IfOk result (λ spec. IsOfClass bytes number spec) }
 {
     let class = class_of(tag);
     let Some(max) = number_at(tag, "length") else {
@@ -64,7 +64,7 @@ fn row_of(tag: &str, number: u16, bytes: Bytes) -> Result<FieldSpec, &'static st
     let Some(kind) = kind_of(class, bytes) else {
         return Err(no_row(class));
     };
-    let spec = laid_out(kind, number, max);
+    let spec = laid_out(number, kind.with(max));
     if spec.good().is_err() {
         return Err("its length is more than its digits can tell, or none");
     }
@@ -76,73 +76,84 @@ fn row_of(tag: &str, number: u16, bytes: Bytes) -> Result<FieldSpec, &'static st
     Ok(spec)
 }
 
-/// Takes how the type is written, or the bitmaps. Tells whether the class is one for that.
-fn take_front(imported: &mut Imported, number: u16, class: &str) -> bool
-    ensures { TakesFront (contents imported.old.draft) (contents imported.new.draft)
-        (mti_named number class.now) (bitmap_named number class.now) result }
+/// How the type is written, where the field of that number says it.
+fn mti_named(number: u16, class: &str) -> Option<Digits>
+    ensures { result ≡ mti_named number class.now }
 {
     match (number, class) {
-        (0, "IFA_NUMERIC") => imported.draft.mti = Digits::Ascii,
-        (0, "IFB_NUMERIC") => imported.draft.mti = Digits::Bcd,
-        (1, "IFA_BITMAP") => imported.draft.bitmap = BitmapCoding::Hex,
-        (1, "IFB_BITMAP") => imported.draft.bitmap = BitmapCoding::Raw,
-        _ => return false,
+        (0, "IFA_NUMERIC") => Some(Digits::Ascii),
+        (0, "IFB_NUMERIC") => Some(Digits::Bcd),
+        _ => None,
     }
-    true
+}
+
+/// How the bitmaps are written, where the field of that number says it.
+fn bitmap_named(number: u16, class: &str) -> Option<BitmapCoding>
+    ensures { result ≡ bitmap_named number class.now }
+{
+    match (number, class) {
+        (1, "IFA_BITMAP") => Some(BitmapCoding::Hex),
+        (1, "IFB_BITMAP") => Some(BitmapCoding::Raw),
+        _ => None,
+    }
+}
+
+/// Takes how the type or the bitmaps are written: a type of four digits, and bitmaps of 16 bytes, a second one among them. Tells
+/// whether the field says it, and no earlier one did.
+fn take_front(taken: &mut Taken, tag: &str, number: u16, class: &str) -> bool
+    ensures { taken.new.rows.items ≡ taken.old.rows.items }
+{
+    match (number, number_at(tag, "length")) {
+        (0, Some(4)) | (1, Some(16)) => {
+            taken.take_front(mti_named(number, class), bitmap_named(number, class))
+        }
+        _ => false,
+    }
 }
 
 /// The row of a field whose place in the table is free, or why it has none.
-fn free_row(
-    imported: &Imported,
-    tag: &str,
-    number: u16,
-    bytes: Bytes,
-) -> Result<FieldSpec, &'static str>
-    ensures { IfOk result (λ spec. CanJoin imported.now.draft.rows.items number spec) }
+fn free_row(taken: &Taken, tag: &str, number: u16, bytes: Bytes) -> Result<FieldSpec, &'static str>
+    ensures free { IfOk result (λ spec. CanJoin taken.now.rows.items number spec) }
+    ensures class { IfOk result (λ spec. IsOfClass bytes number spec) }
 {
-    match imported.refusal_of(number) {
+    match taken.refusal_of(number) {
         Some(why) => Err(why),
-        None => row_of(tag, number, bytes),
+        None => good_row_of(tag, number, bytes),
     }
 }
 
 /// Takes a field of a number.
 fn take_numbered(
     alloc: Global,
-    imported: &mut Imported,
+    taken: &mut Taken,
     tag: &str,
     number: u16,
     bytes: Bytes,
 ) -> Result<(), AllocError>
-    ensures { GoesOn (contents imported.old.draft) (contents imported.new.draft) }
+    ensures { GoOn (IsOfClass bytes) taken.old.rows.items taken.new.rows.items }
 {
     let (class, id) = (class_of(tag), attribute(tag, "id").unwrap_or(""));
-    if take_front(imported, number, class) {
+    if take_front(taken, tag, number, class) {
         return Ok(());
     }
-    match free_row(imported, tag, number, bytes) {
-        Ok(spec) => imported.add(number, spec),
-        Err(why) => imported.leave(alloc, id, class, why),
+    match free_row(taken, tag, number, bytes) {
+        Ok(spec) => taken.add(number, spec),
+        Err(why) => taken.leave(alloc, id, class, why),
     }
 }
 
 /// Takes a field.
-fn take_field(
-    alloc: Global,
-    imported: &mut Imported,
-    tag: &str,
-    bytes: Bytes,
-) -> Result<(), AllocError>
-    ensures { GoesOn (contents imported.old.draft) (contents imported.new.draft) }
+fn take_field(alloc: Global, taken: &mut Taken, tag: &str, bytes: Bytes) -> Result<(), AllocError>
+    ensures { GoOn (IsOfClass bytes) taken.old.rows.items taken.new.rows.items }
 {
     let id = attribute(tag, "id").unwrap_or("?");
     if name_of(tag) == WITH_FIELDS {
         let why = "it has fields of its own, and a row has one value";
-        return imported.leave(alloc, id, class_of(tag), why);
+        return taken.leave(alloc, id, class_of(tag), why);
     }
     match number_at(tag, "id") {
-        Some(number) => take_numbered(alloc, imported, tag, number, bytes),
-        None => imported.leave(alloc, id, class_of(tag), "its id is no number"),
+        Some(number) => take_numbered(alloc, taken, tag, number, bytes),
+        None => taken.leave(alloc, id, class_of(tag), "its id is no number"),
     }
 }
 
@@ -166,8 +177,8 @@ const SETTINGS: [(&str, &str); 4] = [
 ];
 
 /// Names what the packager says of all its fields and a table can't.
-fn take_settings(alloc: Global, imported: &mut Imported, tag: &str) -> Result<(), AllocError>
-    ensures { imported.new.draft ≡ imported.old.draft }
+fn take_settings(alloc: Global, taken: &mut Taken, tag: &str) -> Result<(), AllocError>
+    ensures { taken.new.rows.items ≡ taken.old.rows.items }
 {
     for (name, usual) in SETTINGS {
         if let Some(value) = attribute(tag, name)
@@ -176,30 +187,34 @@ fn take_settings(alloc: Global, imported: &mut Imported, tag: &str) -> Result<()
             let sentence = format!(in alloc;
                 "the packager: {name} is {value}, and a table has none"
             )?;
-            imported.left.push(sentence)?;
+            taken.left.push(sentence)?;
         }
     }
     Ok(())
 }
 
 /// Takes a tag. Tells whether it begins the packager.
+#[tactic(auto, using(crate::proofs::Joining::stand_on, crate::proofs::Joining::classes_on))]
 fn take_tag(
     alloc: Global,
-    imported: &mut Imported,
+    taken: &mut Taken,
     tag: &str,
     depth: usize,
     bytes: Bytes,
 ) -> Result<bool, AllocError>
-    ensures { GoesOn (contents imported.old.draft) (contents imported.new.draft) }
+    ensures stand { CanStand taken.old.rows.items → CanStand taken.new.rows.items }
+    ensures classes { AreOfClasses bytes taken.old.rows.items
+        → AreOfClasses bytes taken.new.rows.items }
 {
     let name = name_of(tag);
-    if depth == 0 && (name == FIELD || name == WITH_FIELDS) {
-        take_field(alloc, imported, tag, bytes)?;
-    }
     if name == "isopackager" {
-        take_settings(alloc, imported, tag)?;
+        take_settings(alloc, taken, tag)?;
+        return Ok(true);
     }
-    Ok(name == "isopackager")
+    if depth == 0 && (name == FIELD || name == WITH_FIELDS) {
+        take_field(alloc, taken, tag, bytes)?;
+    }
+    Ok(false)
 }
 
 /// The table of a packager.
@@ -210,15 +225,16 @@ pub(crate) fn packager_in(
     bytes: Bytes,
 ) -> Result<Imported, ImportFault>
     ensures draft { IfOk result (λ imported. IsDraftOf version (contents imported.draft)) }
+    ensures classes { IfOk result (λ imported. AreOfClasses bytes imported.draft.rows.items) }
     ensures fault { IfErr result (λ fault. IsTrue (is_packager text.now) → Refuses text.now fault) }
     ensures text { IsErrOf result NotText → ⊥ }
 {
-    let mut imported = Imported::new(alloc, version);
+    let mut taken = Taken::new(alloc);
     let (mut rest, mut depth, mut has_begun) = (text, 0usize, false);
     for _ in 0..text.len() {
         match next_markup(rest) {
             Markup::Tag(tag, after) => {
-                has_begun |= take_tag(alloc, &mut imported, tag, depth, bytes)?;
+                has_begun |= take_tag(alloc, &mut taken, tag, depth, bytes)?;
                 depth = depth_after(depth, tag);
                 rest = after;
             }
@@ -228,7 +244,7 @@ pub(crate) fn packager_in(
         }
     }
     if has_begun {
-        Ok(imported)
+        Ok(taken.into_imported(version))
     } else {
         Err(ImportFault::NoPackager)
     }

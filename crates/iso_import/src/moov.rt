@@ -1,6 +1,7 @@
 //! A specification of moov-io/iso8583.
 
-ghost use Rattle.std.specs.Prelude.{◌≡◌, None, Some, false, IfErr, IfOk, IsErrOf, IsTrue, OnOk, codes};
+ghost use Rattle.std.specs.Prelude.{◌≡◌, ◌+◌, ℕ, None, Some, false, length, suc, option_map, IfErr};
+ghost use Rattle.std.specs.Prelude.{IfOk, IsErrOf, IsTrue, OnOk, codes};
 ghost use Rattle.serde_json.specs.Find.{get};
 ghost use Rattle.serde_json.specs.Read.{read};
 ghost use Rattle.serde_json.specs.View.{members_view, view};
@@ -9,14 +10,18 @@ ghost use Rattle.iso_parts.specs.Spec.{IsGood};
 ghost use Rattle.iso_table.specs.Accepted.{contents};
 ghost use Rattle.iso_table.specs.Members.{whole_at};
 ghost use Rattle.iso_import.specs.declared.fault.ImportFault.TheVariants.{NotText};
-ghost use Rattle.iso_import.specs.Fields.{bitmap_coded, coded_in, mti_coded, pad_in, prefixes, row_in, said};
+ghost use Rattle.iso_import.specs.Fields.{bitmap_coded, coded_in, is_fixed, mti_coded};
+ghost use Rattle.iso_import.specs.Fields.{pad_in, prefixes, row_in, said};
 ghost use Rattle.iso_import.specs.Kinds.{named_in};
-ghost use Rattle.iso_import.specs.Taken.{CanJoin, GoesOn, has_number, IsDraftOf, TakesFront};
-ghost use Rattle.iso_import.specs.Told.{good_row_in, is_specification, IsOfFields, IsToldBy, Refuses, TakesField};
+ghost use Rattle.iso_import.specs.Found.{draft_of, found, found_count, has_number, CanJoin, CanStand};
+ghost use Rattle.iso_import.specs.Found.{GoOn, IsDraftOf};
+ghost use Rattle.iso_import.specs.Told.{good_row_in, is_specification, AreLeft, IsOfFields, IsToldBy};
+ghost use Rattle.iso_import.specs.Told.{fields_in, Refuses};
+ghost use Rattle.iso_import.specs.Step.{IsRow, TakesField};
 
 use crate::fault::ImportFault;
 use crate::kinds::Kind;
-use crate::taken::Imported;
+use crate::taken::{Imported, Taken};
 use iso_parts::{BitmapCoding, CharClass, Coding, Digits, FieldSpec, Length, Pad};
 use iso_table::members::text_at;
 use serde_json::{Category, Map, Value};
@@ -109,7 +114,7 @@ fn laid_row(field: &Value) -> Result<FieldSpec, &'static str>
 }
 
 /// The good row of a field, or why it has none.
-fn row_of(field: &Value) -> Result<FieldSpec, &'static str>
+fn good_row_of(field: &Value) -> Result<FieldSpec, &'static str>
     ensures good { IfOk result (λ spec. IsGood spec) }
     ensures row { IfOk result (λ spec. good_row_in (view field.now) ≡ Some spec) }
     ensures none { IfErr result (λ why. good_row_in (view field.now) ≡ None) }
@@ -122,56 +127,72 @@ fn row_of(field: &Value) -> Result<FieldSpec, &'static str>
     }
 }
 
-/// Takes how the type is written, or the bitmaps. Tells whether the encoding is one for that.
-fn take_front(imported: &mut Imported, number: u16, encoding: &str) -> bool
-    ensures { TakesFront (contents imported.old.draft) (contents imported.new.draft)
-        (mti_coded number encoding.now) (bitmap_coded number encoding.now) result }
+/// Whether a field's values all have one length.
+fn is_fixed(field: &Value) -> bool
+    ensures { result ≡ is_fixed (view field.now) }
 {
-    match (number, encoding) {
-        (0, "ASCII") => imported.draft.mti = Digits::Ascii,
-        (0, "BCD") => imported.draft.mti = Digits::Bcd,
-        (1, "HexToASCII") => imported.draft.bitmap = BitmapCoding::Hex,
-        (1, "Binary") => imported.draft.bitmap = BitmapCoding::Raw,
-        _ => return false,
+    matches!(length_of(said(field, "prefix")), Some(Length::Fixed))
+}
+
+/// How the type is written, where the field of that number says it.
+fn mti_coded(number: u16, field: &Value) -> Option<Digits>
+    ensures { result ≡ mti_coded number (view field.now) }
+{
+    if number != 0 || !is_fixed(field) || most_of(field).unwrap_or(0) != 4 {
+        return None;
     }
-    true
+    match said(field, "enc") {
+        "ASCII" => Some(Digits::Ascii),
+        "BCD" => Some(Digits::Bcd),
+        _ => None,
+    }
+}
+
+/// How the bitmaps are written, where the field of that number says it.
+fn bitmap_coded(number: u16, field: &Value) -> Option<BitmapCoding>
+    ensures { result ≡ bitmap_coded number (view field.now) }
+{
+    if number != 1 || !is_fixed(field) {
+        return None;
+    }
+    match said(field, "enc") {
+        "HexToASCII" => Some(BitmapCoding::Hex),
+        "Binary" => Some(BitmapCoding::Raw),
+        _ => None,
+    }
 }
 
 /// The row of a field whose place in the table is free, or why it has none.
-fn free_row(imported: &Imported, number: u16, field: &Value) -> Result<FieldSpec, &'static str>
-    ensures free { IfOk result (λ spec. CanJoin imported.now.draft.rows.items number spec) }
+fn free_row(taken: &Taken, number: u16, field: &Value) -> Result<FieldSpec, &'static str>
+    ensures free { IfOk result (λ spec. CanJoin taken.now.rows.items number spec) }
     ensures row { IfOk result (λ spec. good_row_in (view field.now) ≡ Some spec) }
     ensures none { IfErr result (λ why. IsTrue (is_element number)
-        → has_number imported.now.draft.rows.items number ≡ false
-        → good_row_in (view field.now) ≡ None) }
+        → has_number taken.now.rows.items number ≡ false → good_row_in (view field.now) ≡ None) }
 {
-    match imported.refusal_of(number) {
+    match taken.refusal_of(number) {
         Some(why) => Err(why),
-        None => row_of(field),
+        None => good_row_of(field),
     }
 }
 
 /// Takes a field.
-fn take_field(
-    alloc: Global,
-    imported: &mut Imported,
-    key: &str,
-    field: &Value,
-) -> Result<(), AllocError>
-    ensures draft { GoesOn (contents imported.old.draft) (contents imported.new.draft) }
-    ensures told { OnOk result (TakesField key.now (view field.now)
-        (contents imported.old.draft) (contents imported.new.draft)) }
+fn take_field(alloc: Global, taken: &mut Taken, key: &str, field: &Value) -> Result<(), AllocError>
+    ensures rows { GoOn IsRow taken.old.rows.items taken.new.rows.items }
+    ensures told { OnOk result (TakesField key.now (view field.now) (found taken.old)
+        (found taken.new)) }
+    ensures counted { OnOk result (length taken.new.left.items + found_count (found taken.new)
+        ≡ suc (length taken.old.left.items + found_count (found taken.old))) }
 {
     let what = said(field, "type");
     let Ok(number) = key.parse::<u16>() else {
-        return imported.leave(alloc, key, what, "its key is no number");
+        return taken.leave(alloc, key, what, "its key is no number");
     };
-    if take_front(imported, number, said(field, "enc")) {
+    if taken.take_front(mti_coded(number, field), bitmap_coded(number, field)) {
         return Ok(());
     }
-    match free_row(imported, number, field) {
-        Ok(spec) => imported.add(number, spec),
-        Err(why) => imported.leave(alloc, key, what, why),
+    match free_row(taken, number, field) {
+        Ok(spec) => taken.add(number, spec),
+        Err(why) => taken.leave(alloc, key, what, why),
     }
 }
 
@@ -192,21 +213,27 @@ fn value_of(alloc: Global, text: &str) -> Result<Value, ImportFault>
     }
 }
 
-/// The table of the fields of a specification, taken in the order of their keys.
-fn taken_from(
-    alloc: Global,
-    fields: &Map<String, Value>,
-    version: u8,
-) -> Result<Imported, AllocError>
-    ensures draft { IfOk result (λ imported. IsDraftOf version (contents imported.draft)) }
-    ensures told { IfOk result (λ imported. IsToldBy (members_view fields.now.entries)
-        (contents imported.draft)) }
+/// The fields of a specification.
+fn fields_of(value: &Value) -> Option<&Map<String, Value>>
+    ensures { option_map (λ fields. members_view fields.now.entries) result
+        ≡ fields_in (view value.now) }
 {
-    let mut imported = Imported::new(alloc, version);
+    value.get("fields")?.as_object()
+}
+
+/// What the fields of a specification tell, taken in the order of their keys.
+fn taken_from(alloc: Global, fields: &Map<String, Value>) -> Result<Taken, AllocError>
+    ensures rows { IfOk result (λ taken. CanStand taken.rows.items) }
+    ensures told { IfOk result (λ taken. (version : ℕ)
+        → IsToldBy (members_view fields.now.entries) (draft_of version (found taken))) }
+    ensures left { IfOk result (λ taken. (version : ℕ) → AreLeft (members_view fields.now.entries)
+        (draft_of version (found taken)) (length taken.left.items)) }
+{
+    let mut taken = Taken::new(alloc);
     for (key, field) in fields {
-        take_field(alloc, &mut imported, key.as_str(), field)?;
+        take_field(alloc, &mut taken, key.as_str(), field)?;
     }
-    Ok(imported)
+    Ok(taken)
 }
 
 /// The table of a specification.
@@ -216,14 +243,15 @@ pub(crate) fn specification_in(
     version: u8,
 ) -> Result<Imported, ImportFault>
     ensures draft { IfOk result (λ imported. IsDraftOf version (contents imported.draft)) }
-    ensures told { IfOk result (λ imported. IsOfFields text.now (contents imported.draft)) }
+    ensures told { IfOk result (λ imported. IsOfFields text.now (contents imported.draft)
+        (length imported.left.items)) }
     ensures fault { IfErr result (λ fault. IsTrue (is_specification text.now)
         → Refuses text.now fault) }
     ensures text { IsErrOf result NotText → ⊥ }
 {
     let value = value_of(alloc, text)?;
-    let Some(Value::Object(fields)) = value.get("fields") else {
-        return Err(ImportFault::NoFields);
-    };
-    Ok(taken_from(alloc, fields, version)?)
+    match fields_of(&value) {
+        Some(fields) => Ok(taken_from(alloc, fields)?.into_imported(version)),
+        None => Err(ImportFault::NoFields),
+    }
 }

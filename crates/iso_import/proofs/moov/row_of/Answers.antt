@@ -1,9 +1,0 @@
--- A row with something wrong is no good one.
-use Rattle.std.proofs.Common.{◌∙◌, ap, sym}
-use Rattle.iso_table.specs.Members.{◌>>=◌}
-use Rattle.iso_import.specs.Told.{good_row}
-use Rattle.iso_import.proofs.Telling.{no-good-row, not-ok}
-use Rattle.iso_import.proofs.moov.row_of.Goals as goal
-
-pub returns-else-is_ok-clause-none : goal.returns-else-is_ok-clause-none
-returns-else-is_ok-clause-none c = ap (λ laid. laid >>= good_row) c.in_ok-spec.ensures.row ∙ no-good-row c.in_ok-spec.spec (λ good. not-ok c.good.result (sym c.if-is_ok.ensures.value) (c.good.ensures.good.1 good))
