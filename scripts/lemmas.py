@@ -4,14 +4,16 @@ A crate may name the definitions of the crates below it, and nothing of their pr
 stands in no contract, so it is no such citation.
 
 A lemma is what has a signature in a file of lemmas, `proofs/**/Name.antt`, of the file's own or of a module in it. It is cited where its
-name stands outside of itself, in any file of its crate but in lines `use`. Examples of definitions (`Examples.antt`) are cited by nobody.
+name stands outside of itself: in its file, or in a file of its crate that names its file's module, but not in lines `use` of that file.
+Examples of definitions (`Examples.antt`) are cited by nobody.
 """
 import re
 from collections import Counter
 
 FOREIGN = re.compile(r"\bRattle\.(\w+)\.proofs\.([\w.+-]*)")
-COMMENT = re.compile(r"(?:^|\s)--.*")
-USE = re.compile(r"\s*(?:pub )?(?:ghost )?use\s")
+COMMENT = {".antt": re.compile(r"(?:^|\s)--.*"), ".rt": re.compile(r"(?:^|\s)//.*")}
+# what one file hands on to others by `pub use` is cited
+USE = re.compile(r"\s*(?:ghost )?use\s")
 NAME = re.compile(r"[^\s(){}\[\],;.:]+")
 LEMMA = re.compile(r"( {0,2})(?:(?:abbrev|unfoldable|pub|record|data) )*([^\s(){}:,.=]+)(?: [({].*)? :\s")
 # what a function's own folder has, which the check asks for by name
@@ -21,7 +23,7 @@ ANSWERS = {"Answers.antt", "Invariants.antt", "Proof.antt", "Lib.antt", "Example
 def texts_of(folder):
     """The lines of each file of a crate that can cite a lemma, without comments."""
     paths = [*(folder / "src").rglob("*.rt"), *(folder / "specs").rglob("*.antt"), *(folder / "proofs").rglob("*.antt")]
-    return {path: [COMMENT.sub("", line) for line in path.read_text().split("\n")] for path in sorted(paths)}
+    return {path: [COMMENT[path.suffix].sub("", line) for line in path.read_text().split("\n")] for path in sorted(paths)}
 
 
 def foreign_cites(folder):
@@ -60,17 +62,30 @@ def lemmas_of(texts, folder):
                 yield path, first, end_of(lines, first, len(found[1]), found[2]), found[2]
 
 
+def names_in(lines):
+    """How often each name stands in lines, those of `use` left out."""
+    return Counter(name for line in lines if not USE.match(line) for name in NAME.findall(line))
+
+
+def readers_of(texts, folder, path):
+    """The files that can cite the lemmas of a file: itself, and those that name its module."""
+    inside = [*path.relative_to(folder / "proofs").with_suffix("").parts]
+    module = re.compile(r"\bproofs(?:\.|::)" + r"(?:\.|::)".join(map(re.escape, inside)) + r"\b")
+    return [path, *(it for it, lines in texts.items() if it != path and any(module.search(line) for line in lines))]
+
+
 def uncited_lemmas(folder):
     """The lemmas of a crate that nothing cites, those that only such lemmas cite among them, and how many lemmas there are."""
     texts = texts_of(folder)
     lemmas = [*lemmas_of(texts, folder)]
+    readers = {path: readers_of(texts, folder, path) for path in {it[0] for it in lemmas}}
     dead = []
     while True:
-        cited = Counter(name for lines in texts.values() for line in lines if not USE.match(line) for name in NAME.findall(line))
+        cited = {path: names_in(lines) for path, lines in texts.items()}
         more = []
         for path, first, end, name in lemmas:
-            own = Counter(it for line in texts[path][first:end] for it in NAME.findall(line))[name]
-            if own and own == cited[name]:
+            own = names_in(texts[path][first:end])[name]
+            if own and own == sum(cited[it][name] for it in readers[path]):
                 more.append((path, first + 1, name))
                 texts[path][first:end] = [""] * (end - first)
         if not more:

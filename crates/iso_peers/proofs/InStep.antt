@@ -52,9 +52,6 @@ module _ (law : OrdersEnter) (old new : Books) (synced : List Instruction) (kept
 
 -- ---- orders that are kept
 
-abbrev nothing : List Instruction
-nothing = []
-
 -- ---- a host
 
 -- its journal goes on by orders, and its log stays as it is

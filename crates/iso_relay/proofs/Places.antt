@@ -79,8 +79,3 @@ unplaced key (e ∷ es) told =
     unplaced-by (same_key e.key key) (place_of key es) key e es refl refl (unplaced key es) told
 
 -- ---- the place, sought one after the other
-
--- the one that is
-pub here : (key : TxKey) (e : Entry) (es : List Entry) (i : ℕ) → same_key e.key key ≡ true
-    → option_map (λ n. n + i) (place_of key (e ∷ es)) ≡ Some i
-here key e es i is = rw is (ap (λ m. Some m) (omega arith))

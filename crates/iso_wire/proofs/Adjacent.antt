@@ -20,19 +20,6 @@ goes_on old values part from at end one two is = (
   ap (λ (l : List ℕ). old ++ l) (between-join values from at end one two) ∙ ap (λ (l : List ℕ). old ++ (between values from at ++ l)) (sym is),
 )
 
--- a value that is still to be copied behind its length
-pub goes_behind : (old mid new values front value : List ℕ) (from at end : ℕ) → at ≤ end → mid ≡ old ++ between values from at → new ≡ mid ++ front → value ≡ between values at end
-    → (at ≤ end) × Continues old new (between values from at) (front ++ value) (between values at end)
-goes_behind old mid new values front value from at end le first second is =
-    let run = between values from at in
-    let b = between values at end in (
-      le,
-      ap (λ (l : List ℕ). l ++ b) (second ∙ ap (λ (l : List ℕ). l ++ front) first)
-          ∙ append_assoc (old ++ run) front b
-          ∙ append_assoc old run (front ++ b)
-          ∙ ap (λ (l : List ℕ). old ++ (run ++ (front ++ l))) (sym is),
-    )
-
 -- one part more, of all that is to be written
 pub one_more : (all now new values part rest : List ℕ) (from at end next : ℕ) → Continues now new (between values from at) part (between values next end)
     → now ++ (between values from at ++ (part ++ rest)) ≡ all → new ++ (between values next end ++ rest) ≡ all

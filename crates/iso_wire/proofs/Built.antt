@@ -1,5 +1,5 @@
 -- What a message that is read says of its pieces.
-use Rattle.std.proofs.Common.{◌≡◌, ℕ, ◌+◌, List, ◌∷◌, ◌++◌, length, drop, Option, Some, None, Result, Ok, Err, refl, sym, ap, subst, ◌∙◌}
+use Rattle.std.proofs.Common.{◌≡◌, ℕ, ◌+◌, List, ◌∷◌, ◌++◌, length, drop, Option, Some, Result, Ok, Err, refl, sym, ap, subst, ◌∙◌}
 use Rattle.iso_parts.specs.declared.spec.FieldSpec.{FieldSpec}
 use Rattle.iso_parts.specs.Building.{IsPart}
 use Rattle.iso_parts.specs.Reading.{FieldReading, got, more, fault, part_at}
@@ -25,10 +25,6 @@ part_by s n at len (fault e) h = absurd h
 -- where its value is read, its bytes begin with a part
 pub part_read : (rows : List (Option FieldSpec)) (s : FieldSpec) (n at : ℕ) (b : List ℕ) → row_at rows n ≡ Some s → IsRead (value_at rows n at b) → IsPart (part_at s b)
 part_read rows s n at b row read = part_by s n at (length b) (part_at s b) (subst (λ (o : Option FieldSpec). IsRead (value_by o n at b)) row read)
-
--- and it has a row
-pub has_row : (rows : List (Option FieldSpec)) (n at : ℕ) (b : List ℕ) → row_at rows n ≡ None → IsRead (value_at rows n at b) → ⊥
-has_row rows n at b none read = subst (λ (o : Option FieldSpec). IsRead (value_by o n at b)) none read
 
 pub value_is : (rows : List (Option FieldSpec)) (s : FieldSpec) (n at : ℕ) (b v : List ℕ) (used : ℕ) → row_at rows n ≡ Some s → part_at s b ≡ got v used → value_at rows n at b ≡ Ok (v, used)
 value_is rows s n at b v used row part = ap (λ (o : Option FieldSpec). value_by o n at b) row ∙ ap (answer s n at (length b)) part

@@ -1,6 +1,6 @@
 -- Reading on from a point gives what reading from the start gives.
 use Rattle.std.proofs.Common.{◌≡◌, ◌≢◌, ℕ, ◌+◌, ◌≤◌, Bool, true, false, cond, ltb, List, [], ◌∷◌, ◌++◌, length, take, drop, Option, Some, None, Result, Ok, Err, refl, sym, ap, subst, ◌∙◌, append_assoc, arith}
-use Rattle.std.proofs.lemmas.Bool.{cond-true, cond-false, ltb-true, ltb-false, lt-ltb, le-ltb}
+use Rattle.std.proofs.lemmas.Bool.{cond-false, ltb-true, ltb-false, lt-ltb, le-ltb}
 use Rattle.std.proofs.lemmas.List.{drop-append-le, take-append-le, drop-drop, length-append, length-drop, append-nil}
 use Rattle.iso_parts.specs.Judging.{count_at, size_at, some_size}
 use Rattle.iso_parts.specs.declared.fault.FieldFault.{FieldFault}
@@ -11,7 +11,7 @@ use Rattle.iso_parts.specs.Reading.{FieldReading, got, more, fault, prefix_size,
 use Rattle.iso_table.specs.Layout.{Layout, row_at}
 use Rattle.iso_wire.specs.declared.fault.UnpackFault.{UnpackFault}
 use Rattle.iso_wire.specs.declared.fault.UnpackCause.TheVariants as causes
-use Rattle.iso_wire.specs.declared.fault.UnpackCause.TheVariants.{Short, UnknownElement, Field}
+use Rattle.iso_wire.specs.declared.fault.UnpackCause.TheVariants.{Short, Field}
 use Rattle.iso_wire.specs.declared.judging.ResumePoint.{ResumePoint}
 use Rattle.iso_wire.specs.declared.judging.ResumePoint.TheVariants as points
 use Rattle.iso_wire.specs.declared.judging.JudgingStop.{JudgingStop}
@@ -21,11 +21,11 @@ use Rattle.iso_parts.specs.Numbers.{numbers_in}
 use Rattle.iso_parts.specs.Mti.{mti_size}
 use Rattle.iso_wire.specs.Reading.{◌>>=◌, halt, type_at, words_at, fault_place, answer, value_by, elements_at, message_at, whole}
 use Rattle.iso_wire.specs.ReadingLaws.{IsShort}
-use Rattle.iso_wire.specs.Judging.{end_of, end_of_elements, end_by, body_end_under, behind_body, ends_from, IsPointWithin, GoesOn, Resumes, PassesPart, IsResumed}
+use Rattle.iso_wire.specs.Judging.{end_of, end_of_elements, end_by, body_end_under, behind_body, ends_from, GoesOn, Resumes, PassesPart, IsResumed}
 use Rattle.iso_wire.proofs.Endings.{Stays, type_stays}
 use Rattle.iso_wire.proofs.NeverMemory.{NeverMemory, message}
 use Rattle.iso_wire.proofs.Orders.{Values}
-use Rattle.iso_wire.proofs.Readings.{behind_type, message_is, count_is, count_fails, lacks_by, size_by}
+use Rattle.iso_wire.proofs.Readings.{behind_type, message_is, count_is, count_fails}
 
 -- what is good stays, whatever follows
 stays_ok : {A : Type 0} (r r' : Result A UnpackFault) (x : A) → r ≡ Ok x → Stays r r' → r' ≡ Ok x
@@ -166,28 +166,7 @@ module _ (laws : PartLaws) where
 abbrev short : ℕ → ℕ → Result ℕ UnpackFault
 short n at = halt n at Short
 
-pub length_lacks : (rows : List (Option FieldSpec)) (s : FieldSpec) (old ns : List ℕ) (n at : ℕ) (b : List ℕ) → old ≡ n ∷ ns → row_at rows n ≡ Some s → count_at s (drop at b) ≡ Ok None → end_of_elements rows old at b ≡ short n at
-length_lacks rows s old ns n at b is row few =
-    let front = prefix_size s.length in
-    let d : List ℕ = drop at b in
-    let less : ltb (length d) front ≡ true = lacks_by (ltb (length d) front) (prefix_of s (take front d)) few in
-    let part : part_at s d ≡ more = cond-true (ltb (length d) front) more (at_prefix s d (prefix_of s (take front d))) less in
-    ap (λ (l : List ℕ). end_of_elements rows l at b) is
-    ∙ ap (λ o. end_of (value_by o n at d >>= behind_value rows n ns at d)) row
-    ∙ ap (λ (o : FieldReading). end_of (answer s n at (length d) o >>= behind_value rows n ns at d)) part
-    ∙ ap (short n) (cond-true (ltb (length d) front) at (at + front) less)
-
 -- ---- the body of an element
-
-size_stays : (s : FieldSpec) (count size : ℕ) (b x : List ℕ) → size_at s count b ≡ Ok (Some size) → size_at s count (b ++ x) ≡ Ok (Some size)
-size_stays s count size b x is =
-    let n = body_size s.coding count in
-    let r = λ (l : List ℕ). body_of s count (take n l) in
-    let long = (size_by (ltb (length b) n) (r b) n size is).0 in
-    let room : n ≤ length b = ltb-false (length b) n long in
-    cond-false (ltb (length (b ++ x)) n) (Ok None) (some_size n (r (b ++ x))) (le-ltb (length (b ++ x)) n (omega (arith, length-append b x)))
-    ∙ ap (λ (l : List ℕ). some_size n (body_of s count l)) (take-append-le n b x room)
-    ∙ sym (cond-false (ltb (length b) n) (Ok None) (some_size n (r b)) long) ∙ is
 
 -- ---- from one point to the next
 
@@ -221,21 +200,10 @@ type_goes_on t b mti read = λ x.
 pub type_ends : (t : Layout) (b : List ℕ) (e : UnpackFault) → type_at t b ≡ Err e → end_of (message_at t b) ≡ Err e
 type_ends t b e read = ap end_of (message_is t b ∙ ap (λ r. r >>= behind_type t b) read)
 
-abbrev words : ℕ → ℕ → ℕ → Result (ℕ × ℕ × ℕ) UnpackFault
-words first second size = Ok (first, second, size)
-
 -- ---- what is resumed
 
 pub at_start : (t : Layout) (b : List ℕ) → IsResumed t points.Type b
 at_start t b = (tt, λ x. refl)
-
--- more bytes reach up to the point too
-pub within_more : (t : Layout) (point : ResumePoint) (b x : List ℕ) → IsPointWithin t point b → IsPointWithin t point (b ++ x)
-within_more t points.Type b x h = tt
-within_more t points.Primary b x h = omega (arith, length-append b x)
-within_more t (points.Secondary first) b x h = omega (arith, length-append b x)
-within_more t (points.Elements rest at) b x h = omega (arith, length-append b x)
-within_more t (points.Body n count rest at) b x h = (omega (arith, h.0, length-append b x), h.1)
 
 pub resumed_more : (t : Layout) (from to : ResumePoint) (old piece : List ℕ) (r : Result ℕ UnpackFault) → IsResumed t from old → Resumes t from (old ++ piece) to r → IsResumed t to (old ++ piece)
 resumed_more t from to old piece r so_far found = (
