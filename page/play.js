@@ -1,17 +1,11 @@
 // ---- Play
 
-const CODES = {
-  "00": "approved", 12: "invalid transaction", 13: "invalid amount", 14: "no such account", 21: "already reversed", 30: "format error",
-  51: "not enough money", 94: "another order under its key", 96: "can't be answered now",
-};
 const QUICK = {
   purchase: { mti: "0200", process: "000000" }, hold: { mti: "0100", process: "000000" },
   completion: { mti: "0220", process: "000000", names: ["hold"] }, reversal: { mti: "0400", names: ["debit", "credit", "hold", "completion"] },
   inquiry: { mti: "0200", process: "310000" },
 };
 const playing = { bodies: [], openings: [{ pan: "4111111111111111", currency: "840", opening: "5000" }], journal: [], trace: 0, day: [], next: 0 };
-
-const codeWords = (code) => code + (CODES[code] ? ` ${CODES[code]}` : "");
 
 function showOpenings() {
   const field = (account, at, name) => make("input", {

@@ -18,7 +18,7 @@ PAGE = ROOT / "page" / "page.html"
 TEXT = ROOT / "crates" / "rumpadol_page" / "src" / "text.rt"
 MOST_BYTES = 100_000
 # a line that stands for a file of page/
-NAMED = re.compile(r"^\{\{(\w+)\.(\w+)\}\}\n", re.M)
+NAMED = re.compile(r"^\{\{(\w+\.\w+)\}\}\n", re.M)
 
 
 def hashed(page, element):
@@ -53,22 +53,23 @@ def made_from(name):
     return f"made by scripts/page-text.py from page/{name}."
 
 
-def constants_of(html, files):
-    """The files of the constants, by their paths below the crate's src/: those of the named files, and the one that joins them."""
-    page = NAMED.sub(lambda it: files[it[1], it[2]], html)
-    modules, parts, at = [], [], 0
-    for found in NAMED.finditer(html):
-        if html[at : found.start()]:
-            parts.append(quoted(html[at : found.start()]))
-        parts.append(f"{found[1]}::TEXT")
-        modules.append(found[1])
-        at = found.end()
-    parts.append(quoted(html[at:]))
-    made = {f"text/{name}.rt": part_of(name, kind, files[name, kind]) for name, kind in files}
-    made["text.rt"] = "\n".join([
+def check_names(html):
+    """Ends where a line looks like one that stands for a file and isn't, or where not each file stands there once."""
+    names = NAMED.findall(html)
+    parts = [name.split(".")[0] for name in names]
+    if "{{" in NAMED.sub("", html):
+        sys.exit(f"page-text.py: a line of {PAGE.name} has {{{{ and isn't {{{{NAME}}}} alone")
+    if len({*parts}) != len(parts) or {*names} != {it.name for it in PAGE.parent.iterdir()} - {PAGE.name}:
+        sys.exit(f"page-text.py: {PAGE.name} doesn't name each other file of page/ once, each by a word of its own")
+
+
+def text_of(texts, page):
+    """The file that joins the parts: each second text is the name of a file."""
+    parts = [f"{text.split('.')[0]}::TEXT" if at % 2 else quoted(text) for at, text in enumerate(texts) if text]
+    return "\n".join([
         f"//! The page and its content policy: {made_from(PAGE.name)}",
         "",
-        *[f"mod {name};" for name in sorted(modules)],
+        *sorted(f"mod {name.split('.')[0]};" for name in texts[1::2]),
         "",
         "/// The content policy of each answer.",
         "pub(crate) const POLICY: &str =",
@@ -80,13 +81,12 @@ def constants_of(html, files):
         "];",
         "",
     ])
-    return page, made
 
 
-def part_of(name, kind, text):
+def part_of(name, text):
     """The file of the constant of one part."""
     return "\n".join([
-        f"//! A part of the page: {made_from(f'{name}.{kind}')}",
+        f"//! A part of the page: {made_from(name)}",
         "",
         "/// The part.",
         f"pub(crate) const TEXT: &str = {quoted(text)};",
@@ -96,8 +96,12 @@ def part_of(name, kind, text):
 
 def main():
     html = PAGE.read_text()
-    files = {(name, kind): PAGE.with_name(f"{name}.{kind}").read_text() for name, kind in NAMED.findall(html)}
-    page, made = constants_of(html, files)
+    check_names(html)
+    texts = NAMED.split(html)
+    files = {name: PAGE.with_name(name).read_text() for name in texts[1::2]}
+    page = "".join(files.get(text, text) for text in texts)
+    made = {f"text/{name.split('.')[0]}.rt": part_of(name, text) for name, text in files.items()}
+    made["text.rt"] = text_of(texts, page)
     if len(page.encode()) > MOST_BYTES or not page.isascii():
         sys.exit(f"page-text.py: the page is longer than {MOST_BYTES} bytes, or has a character beyond ASCII")
     here = {str(it.relative_to(TEXT.parent)) for it in [TEXT, *TEXT.with_suffix("").glob("*.rt")] if it.exists()}

@@ -28,8 +28,8 @@ pub fn split_frames<'a>(
     ensures { IfOk result
         (λ split. Splits header bytes.now (map (λ b. b.now) split.bodies.items) split.rest.now) }
 {
-    frames();
-    splits_once();
+    frames(); // for the prover: a frame more comes behind the others
+    splits_once(); // for the prover: bytes have one split into frames
     let mut bodies = Vec::new(alloc);
     let mut rest = bytes;
     while let Ok(Framed::Got { body, used }) = unframe(header, rest) {
@@ -54,17 +54,17 @@ pub fn count_frames(header: Header, bytes: &[u8]) -> Front
     // So many whole frames, of so many bytes, stand in front, and no whole frame follows them.
     ensures { IsFront header bytes.now result }
 {
-    frames();
-    splits_once();
-    let mut frames = 0;
+    frames(); // for the prover: a frame more comes behind the others
+    splits_once(); // for the prover: bytes have one split into frames
+    let mut count = 0;
     let mut rest = bytes;
     while let Ok(Framed::Got { used, .. }) = unframe(header, rest) {
         let (_, behind) = rest.split_at(used);
         rest = behind;
-        frames += 1;
+        count += 1;
     }
     Front {
-        frames,
+        frames: count,
         size: bytes.len() - rest.len(),
     }
 }

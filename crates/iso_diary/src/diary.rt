@@ -57,7 +57,7 @@ impl<D: Disk + Drop> DiaryLog<D> {
             → LeavesFront (LeavesNotes D.may_leave self.new.log) (synced_notes D.seen self.old.log)
             (pending_notes D.seen self.old.log) }
     {
-        headed_logs::<D, Note>();
+        headed_logs::<D, Note>(); // for the prover: what the records behind the heading tell
         match self.log.grow(more) {
             Ok(()) => Ok(()),
             Err(error) => Err(error),
@@ -77,7 +77,7 @@ impl<D: Disk + Drop> DiaryLog<D> {
             → LeavesFront (LeavesNotes D.may_leave self.new.log) (synced_notes D.seen self.old.log)
             (pending_notes D.seen self.old.log) }
     {
-        headed_logs::<D, Note>();
+        headed_logs::<D, Note>(); // for the prover: what the records behind the heading tell
         match self.log.sync() {
             Ok(()) => Ok(()),
             Err(_) => Err(LogFailed),
@@ -118,7 +118,7 @@ impl<D: Disk + Drop> NoteLog for DiaryLog<D> {
             ++ line_bytes (record { place = self.old.log.count; note = note }) ∷ []) }
     {
         lines_come_back();
-        headed_logs::<D, Note>();
+        headed_logs::<D, Note>(); // for the prover: what the records behind the heading tell
         let place = self.log.count as u64;
         let bytes = line_bytes(&Line { place, note });
         match self.log.append(&bytes) {

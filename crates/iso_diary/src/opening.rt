@@ -45,7 +45,7 @@ fn check_heading<D: Disk>(disk: &mut D, heading: &Heading) -> Result<(), OpenErr
     ensures seen { D.seen disk.new ≡ D.seen disk.old }
     ensures crash { (c : List ℕ) → D.may_leave disk.new c → D.may_leave disk.old c }
 {
-    slots();
+    slots(); // for the prover: what was read of a file has its records
     if !disk.may_be_used() {
         return Err(OpenError::Disk);
     }
@@ -148,7 +148,7 @@ pub fn open<D: Disk + Drop>(
         → Only (D.seen disk) (D.may_leave disk)
         → (c : List ℕ) → D.may_leave e.1 c → records_of c ≡ records_of (D.seen disk)) }
 {
-    files();
+    files(); // for the prover: which records stand up to a place
     match load(alloc, &mut disk, heading, group) {
         Ok(loaded) => {
             let log = RecordLog {

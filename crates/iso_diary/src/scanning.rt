@@ -72,7 +72,7 @@ fn scan_piece(notes: &mut Vec<Note>, piece: &[u8], first: usize) -> Result<usize
         → notes.new.items ≡ notes.old.items ++ notes_of (slots_from n 0 piece.now)) }
     ensures fault { IfErr result (λ e. IsPlain e) }
 {
-    slots();
+    slots(); // for the prover: what was read of a file has its records
     let count = piece.len() / RECORD;
     for place in 0..count {
         let record = record_at(piece, place);
@@ -107,7 +107,7 @@ fn scan_some<D: Disk>(
     ensures crash { (c : List ℕ) → D.may_leave disk.new c → D.may_leave disk.old c }
     ensures usable { IsTrue (D.is_usable disk.new) }
 {
-    slots();
+    slots(); // for the prover: what was read of a file has its records
     let mut buffer = [0; PIECE_BYTES];
     let piece = &mut buffer[..RECORD * count];
     let Ok(()) = disk.read_at(RECORD * place, piece) else {
@@ -140,7 +140,7 @@ pub(crate) fn scan<D: Disk>(
     ensures crash { (c : List ℕ) → D.may_leave disk.new c → D.may_leave disk.old c }
     ensures usable { IsTrue (D.is_usable disk.new) }
 {
-    files();
+    files(); // for the prover: which records stand up to a place
     let mut notes = Vec::new(alloc);
     let mut place = 1;
     while place < count {

@@ -4,7 +4,7 @@
 //!   come together with one sync, and `decide` is one step of it.
 //! - `Log`: what a log of orders is, and what a crash leaves of it. `MemoryLog` is one in memory.
 //! - `replay` and `answer_order`: what a start does with the orders that a log holds.
-//! - `laws`: the answers that were given outlive each crash.
+//! - `laws`: the answers that were given outlive each crash, and what holds of the orders that a host can start on.
 #![tactic(auto)]
 
 mod host;

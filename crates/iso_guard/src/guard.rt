@@ -186,8 +186,7 @@ fn answer_own(
         ⊎ (host.new ≡ books_after_bodies link.now.table host.old (message.now ∷ []))) }
     ensures unchanged { OnErr result (waiting.new.items ≡ waiting.old.items) }
 {
-    // the laws that a body alone is a stream of one, and that a header takes as many bytes, whatever it counts, for the
-    // prover
+    // for the prover: a body alone is a stream of one, and a header takes the same number of bytes, whatever it counts
     one_journal(host.issuer());
     frames();
     rooms.answer.clear();

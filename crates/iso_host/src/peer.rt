@@ -93,7 +93,7 @@ impl<'l> Peer<'l> {
     pub fn may_end(&self) -> bool
         ensures { (result ≡ true) ↔ (self.now.held ≡ []) }
     {
-        // the law that a header takes as many bytes, whatever it counts, for the prover
+        // for the prover: a header takes the same number of bytes, whatever it counts
         frames();
         head_len(&self.begun) == 0
     }

@@ -138,8 +138,8 @@ fn take_header_byte(
     ensures held { OnErr result (begun.new ≡ begun.old) }
     ensures unchanged { OnErr result (out.new.items ≡ out.old.items) }
 {
-    splits_once(); // for the prover: what a header comes to that is bad, or that counts more than is there
-    frames(); // for the prover: a header takes as many bytes, whatever it counts
+    splits_once(); // for the prover: a header that is bad, or counts more than is there, begins no whole frame
+    frames(); // for the prover: a header takes the same number of bytes, whatever it counts
     if bytes.is_empty() {
         return Ok(Step::inside(0));
     }
@@ -196,7 +196,7 @@ fn take_first(
     ensures held { OnErr result (begun.new ≡ begun.old) }
     ensures unchanged { OnErr result (out.new.items ≡ out.old.items) }
 {
-    frames(); // for the prover: a header takes as many bytes, whatever it counts
+    frames(); // for the prover: a header takes the same number of bytes, whatever it counts
     match body_length(header, bytes) {
         Err(_) => Err(PeerFault::BadHeader),
         Ok(Some(length)) if length <= bytes.len() - header.size() => {

@@ -83,7 +83,7 @@ fn replay_piece(issuer: &mut Issuer, piece: &[u8]) -> Result<usize, OpenError>
         (λ n. n ≡ length piece.now / 128 → issuer.new.limit ≡ issuer.old.limit) }
     ensures fault { IfErr result (λ e. IsPlain e) }
 {
-    slots();
+    slots(); // for the prover: what was read of a file has its records
     let count = piece.len() / RECORD;
     for place in 0..count {
         let record = record_at(piece, place);
@@ -124,7 +124,7 @@ fn replay_some<D: Disk>(
     ensures crash { (c : List ℕ) → D.may_leave disk.new c → D.may_leave disk.old c }
     ensures usable { IsTrue (D.is_usable disk.new) }
 {
-    slots();
+    slots(); // for the prover: what was read of a file has its records
     let mut buffer = [0; PIECE_BYTES];
     let piece = &mut buffer[..RECORD * count];
     let Ok(()) = disk.read_at(RECORD * place, piece) else {
@@ -163,7 +163,7 @@ pub(crate) fn replay_records<D: Disk, W: Watch>(
     ensures crash { (c : List ℕ) → D.may_leave disk.new c → D.may_leave disk.old c }
     ensures usable { IsTrue (D.is_usable disk.new) }
 {
-    files();
+    files(); // for the prover: which records stand up to a place
     let mut issuer = Issuer::new(accounts, limit);
     let mut place = 1;
     while place < count {

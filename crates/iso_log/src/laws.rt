@@ -6,8 +6,8 @@ use sqlite_disk::Disk;
 
 /// Which records stand behind the heading of a file, up to each place.
 pub fn files()
-    // A file has as many records as it counts. Up to each place that is told by the slots: those
-    // from one place to another come behind those up to there.
+    // A file has as many records as it counts. Those up to a later place are those up to an
+    // earlier one, and then the slots in between.
     ensures { FileLaws }
 {}
 

@@ -97,11 +97,11 @@ pub fn serve_kept<L: Log, R: Inlet, W: Outlet>(
         (standing (R.remaining reader.old) (W.contents writer.old) host.old.host)
         (standing (R.remaining reader.new) (W.contents writer.new) host.new.host) result }
 {
-    one_journal(host.issuer()); // for the prover, as the next four: a journal and an output go on, and bytes split once
-    output_goes_on();
-    frames();
-    splits_once();
-    kept_outlive(host);
+    one_journal(host.issuer()); // for the prover, as the next four: a journal goes on,
+    output_goes_on(); // as an output does,
+    frames(); // frames come behind others,
+    splits_once(); // bytes are split into them in one way,
+    kept_outlive(host); // and what is kept outlives a crash
     let mut block = new_block(alloc)?;
     let mut connection = Connection::new(alloc, link);
     let mut report = NO_FRAMES;

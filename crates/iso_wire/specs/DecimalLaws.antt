@@ -15,8 +15,8 @@ pub record DecimalLaws : Type 0 where
   -- a text of at most so many digits is no longer
   pub most : (least most : ℕ) (digits : List ℕ) → are_digits least most digits ≡ true
       → length digits ≤ most
-  -- and it tells a number below that power of ten
+  -- and it tells a number below ten to that power
   pub below : (least most : ℕ) (digits : List ℕ) → are_digits least most digits ≡ true
       → number digits < 10 ^ most
-  -- a number that has no more digits than there are places is the one that is written
+  -- and what is written tells the number, where there are places enough for it
   pub number : (n v : ℕ) → v < 10 ^ n → number (decimal n v) ≡ v

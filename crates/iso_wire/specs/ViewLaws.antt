@@ -6,7 +6,7 @@ use Rattle.iso_wire.specs.Elements.{value_in}
 use Rattle.iso_wire.specs.Spelling.{PartAs}
 use Rattle.iso_wire.specs.Viewing.{SpellsBodies, front_of, starts_of}
 
--- element n has a value, and its part lies in the bytes, behind whose length its body starts
+-- element n has a value, and its part lies in the bytes so that its body begins at `start`
 pub record IsValueAt (rows : List (Option FieldSpec)) (es : List (ℕ × List ℕ)) (n start : ℕ)
     (b : List ℕ) : Type 0 where
   pub value : List ℕ
@@ -19,7 +19,7 @@ pub record IsValueAt (rows : List (Option FieldSpec)) (es : List (ℕ × List �
 
 -- what holds where bytes are the parts of elements, with these bodies
 pub record ViewLaws : Type 0 where
-  -- an element whose body starts somewhere has a value, and its part lies there
+  -- an element whose body starts somewhere has a value, and its part lies so that it does
   pub there : (rows : List (Option FieldSpec)) (n : ℕ) (b : List ℕ) (es wires : List (ℕ × List ℕ))
       (at start : ℕ) (p rest : List ℕ) → SpellsBodies rows es wires p → drop at b ≡ p ++ rest
       → value_in (starts_of rows at wires) n ≡ Some start → IsValueAt rows es n start b

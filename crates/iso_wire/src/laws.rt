@@ -98,20 +98,21 @@ pub fn splits_once()
 /// How numbers stand to the digits that write them.
 pub fn decimals()
     // A number is written in exactly as many digits as there are places, and where these are
-    // enough they tell that number. At most so many digits tell a number below that power of ten.
+    // enough the digits tell that number. A text of at most `most` digits tells a number below
+    // ten to the power of `most`.
     ensures { DecimalLaws }
 {}
 
 /// How the frames of bodies stand to those of the bodies before them.
 pub fn frames()
-    // A header takes as many bytes, whatever it counts. The frames of bodies that follow others
-    // come behind theirs, and all fit where both do.
+    // A header takes the same number of bytes, whatever it counts. The frames of bodies that
+    // follow others come behind theirs, and all fit where both do.
     ensures { FrameLaws }
 {}
 
 /// How the bodies of a message that is viewed stand to its elements.
 pub fn views()
-    // An element whose body is there has a value, and its part lies where that body starts, behind
-    // its length. One without a body has none.
+    // An element whose body starts somewhere has a value, and its part lies so that the body
+    // starts there: first the part's length, then the body. One without a body has no value.
     ensures { ViewLaws }
 {}

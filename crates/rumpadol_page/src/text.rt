@@ -13,7 +13,7 @@ mod table;
 
 /// The content policy of each answer.
 pub(crate) const POLICY: &str =
-    "default-src 'none'; style-src 'sha256-5ZZH0advz1qlE2wDEA/AscBKHx8ur3LiKStf+TwBsE0='; script-src 'sha256-8/FQUczzIMEzRcEDr/TvC+YKmC4fF4xEqaU2sOav+NY='; connect-src 'self'; base-uri 'none'; form-action 'none'; frame-ancestors 'none'";
+    "default-src 'none'; style-src 'sha256-5ZZH0advz1qlE2wDEA/AscBKHx8ur3LiKStf+TwBsE0='; script-src 'sha256-iRwtQktXTidp2hNq31a+0589Hl00HMre7J0baFTup/I='; connect-src 'self'; base-uri 'none'; form-action 'none'; frame-ancestors 'none'";
 
 /// The page, part by part.
 pub(crate) const PAGE: &[&str] = &[

@@ -3,15 +3,7 @@
 /// The part.
 pub(crate) const TEXT: &str = "// ---- Look
 
-const PURCHASE = { mti: \"0200\", elements: { 2: \"4111111111111111\", 3: \"000000\", 4: \"000000001000\", 7: \"0102030405\", 11: \"000007\", 32: \"12345\", 49: \"840\" } };
-const ECHO_TEST = { mti: \"0800\", elements: { 7: \"0102030405\", 11: \"000001\", 70: \"301\" } };
 const looked = { messages: [], chosen: 0, isKindChosen: false };
-
-const toHex = (bytes) => Array.from(bytes, (byte) => byte.toString(16).padStart(2, \"0\")).join(\"\").toUpperCase();
-const toBytes = (hex) => Uint8Array.from(hex.match(/../g) || [], (digits) => parseInt(digits, 16));
-const toText = (hex) => new TextDecoder(\"latin1\").decode(toBytes(hex));
-const linesOf = (hex) => (hex.match(/.{1,64}/g) || []).join(\"\\n\");
-const bytesOf = async (file) => new Uint8Array(await file.arrayBuffer());
 
 // Whether a text is hex digits or a dump. Digits alone may be a message in ASCII, whose hex begins with 3: those that begin with
 // the table's version, or with the zero of a header, are the message itself.
@@ -70,8 +62,6 @@ function chooseMessage(at) {
   showMessage(\"lookMessage\", looked.messages[at]);
 }
 
-const valueOf = (message, number) => message.pieces.find((piece) => piece.element === number)?.value;
-const typeOf = (message) => message.pieces[0]?.value || \"\";
 const isResponse = (message) => typeOf(message)[2] % 2 === 1;
 const keyOf = (message) => [typeOf(message).slice(0, 2), ...[7, 11, 32].map((number) => valueOf(message, number))].join();
 

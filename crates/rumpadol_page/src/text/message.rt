@@ -3,6 +3,25 @@
 /// The part.
 pub(crate) const TEXT: &str = "// ---- a message: its bytes, its pieces and its bitmaps
 
+const PURCHASE = { mti: \"0200\", elements: { 2: \"4111111111111111\", 3: \"000000\", 4: \"000000001000\", 7: \"0102030405\", 11: \"000007\", 32: \"12345\", 49: \"840\" } };
+const ECHO_TEST = { mti: \"0800\", elements: { 7: \"0102030405\", 11: \"000001\", 70: \"301\" } };
+
+// What the response codes mean.
+const CODES = {
+  \"00\": \"approved\", 12: \"invalid transaction\", 13: \"invalid amount\", 14: \"no such account\", 21: \"already reversed\", 30: \"format error\",
+  51: \"not enough money\", 94: \"another order under its key\", 96: \"can't be answered now\",
+};
+const codeWords = (code) => code + (CODES[code] ? ` ${CODES[code]}` : \"\");
+
+const toHex = (bytes) => Array.from(bytes, (byte) => byte.toString(16).padStart(2, \"0\")).join(\"\").toUpperCase();
+const toBytes = (hex) => Uint8Array.from(hex.match(/../g) || [], (digits) => parseInt(digits, 16));
+const toText = (hex) => new TextDecoder(\"latin1\").decode(toBytes(hex));
+const linesOf = (hex) => (hex.match(/.{1,64}/g) || []).join(\"\\n\");
+const bytesOf = async (file) => new Uint8Array(await file.arrayBuffer());
+
+const valueOf = (message, number) => message.pieces.find((piece) => piece.element === number)?.value;
+const typeOf = (message) => message.pieces[0]?.value || \"\";
+
 // The pieces of a message in one shape, the bad one last.
 function piecesOf({ pieces, fault }) {
   const shaped = pieces.map((piece, at) => {
