@@ -12,6 +12,8 @@
 # make drives  a driver at good hosts and at bad ones, and a recorded day that is compared; builds rumpadol
 # make page    the page in a headless browser, and requests that are refused; makes the pictures of docs/PAGE.md; builds both programs
 # make soak    a host and a driver as processes, and everything between them broken: MINUTES=10; writes docs/SOAK.md; builds rumpadol
+# make fronts  a front before three hosts, beside one host with all accounts; builds rumpadol
+# make replicas  two hosts over one journal on three members of etcd, and everything between them broken: MINUTES=10; builds rumpadol
 # make rows    the rows of both programs, and of the host on a port, at the built programs; builds them
 # make schedule  an acquirer whose answers get lost, and what both ends hold: SCHEDULE=examples/lost-answers.txt
 # make library  proves the library for C and what it stands on, and builds it: crates/iso_c/out/libiso_c.a
