@@ -2,12 +2,12 @@
 -- Inner: bodies and proofs cite it.
 use Rattle.std.specs.Prelude.{◌≡◌, ℕ, IsTrue, List}
 use Rattle.std.specs.Option.{option_or}
-use Rattle.serde_json.specs.Data.{Data}
+use Rattle.serde_json.specs.Data.{Data, Members}
 use Rattle.iso_parts.specs.Numbers.{is_element}
 use Rattle.iso_parts.specs.declared.spec.FieldSpec.{FieldSpec}
 use Rattle.iso_table.specs.Accepted.{row_of}
-use Rattle.iso_import.specs.Found.{Found}
-use Rattle.iso_import.specs.Told.{bitmap_told, mti_told, row_told}
+use Rattle.iso_import.specs.Found.{draft_of, Found}
+use Rattle.iso_import.specs.Told.{bitmap_told, mti_told, row_told, AreLeft, IsToldBy}
 
 -- what a field tells is found, where no earlier one told it
 pub record TakesField (key : List ℕ) (field : Data) (old new : Found) : Type 0 where
@@ -19,3 +19,8 @@ pub record TakesField (key : List ℕ) (field : Data) (old new : Found) : Type 0
 -- any row
 abbrev pub IsRow : ℕ → FieldSpec → Type 0
 IsRow number spec = Unit {0}
+
+-- the draft of what was found has what the fields tell, whatever its edition, all but so many
+pub record AreFound (fields : Members) (f : Found) (left : ℕ) : Type 0 where
+  pub told : (edition : ℕ) → IsToldBy fields (draft_of edition f)
+  pub others : (edition : ℕ) → AreLeft fields (draft_of edition f) left

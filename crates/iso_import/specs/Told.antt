@@ -121,3 +121,7 @@ Refuses text (faults.NotJson line column) =
 Refuses text faults.NoFields = IsTrue (is_specification text)
     × ((value : Data) × (read text ≡ Some value) × (fields_in value ≡ None))
 Refuses text faults.Memory = Unit {0}
+
+-- why a text that begins so is refused
+abbrev pub RefusesAs : (List ℕ → Bool) → List ℕ → ImportFault → Type 0
+RefusesAs begins text fault = IsTrue (begins text) → Refuses text fault

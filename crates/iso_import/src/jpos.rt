@@ -5,7 +5,7 @@ ghost use Rattle.iso_table.specs.Accepted.{contents};
 ghost use Rattle.iso_import.specs.declared.fault.ImportFault.TheVariants.{NotText};
 ghost use Rattle.iso_import.specs.Kinds.{bitmap_named, laid_out, mti_named, AreOfClasses, IsOfClass};
 ghost use Rattle.iso_import.specs.Found.{CanJoin, CanStand, GoOn, IsDraftOf};
-ghost use Rattle.iso_import.specs.Told.{is_packager, Refuses};
+ghost use Rattle.iso_import.specs.Told.{is_packager, RefusesAs};
 
 use crate::fault::ImportFault;
 use crate::kinds::{Bytes, kind_of, no_row, on_track};
@@ -226,7 +226,7 @@ pub(crate) fn packager_in(
 ) -> Result<Imported, ImportFault>
     ensures draft { IfOk result (λ imported. IsDraftOf version (contents imported.draft)) }
     ensures classes { IfOk result (λ imported. AreOfClasses bytes imported.draft.rows.items) }
-    ensures fault { IfErr result (λ fault. IsTrue (is_packager text.now) → Refuses text.now fault) }
+    ensures fault { IfErr result (RefusesAs is_packager text.now) }
     ensures text { IsErrOf result NotText → ⊥ }
 {
     let mut taken = Taken::new(alloc);

@@ -1,6 +1,6 @@
 //! A specification of moov-io/iso8583.
 
-ghost use Rattle.std.specs.Prelude.{◌≡◌, ◌+◌, ℕ, None, Some, false, length, suc, option_map, IfErr};
+ghost use Rattle.std.specs.Prelude.{◌≡◌, ◌+◌, None, Some, false, length, suc, option_map, IfErr};
 ghost use Rattle.std.specs.Prelude.{IfOk, IsErrOf, IsTrue, OnOk, codes};
 ghost use Rattle.serde_json.specs.Find.{get};
 ghost use Rattle.serde_json.specs.Read.{read};
@@ -13,11 +13,11 @@ ghost use Rattle.iso_import.specs.declared.fault.ImportFault.TheVariants.{NotTex
 ghost use Rattle.iso_import.specs.Fields.{bitmap_coded, coded_in, is_fixed, mti_coded};
 ghost use Rattle.iso_import.specs.Fields.{pad_in, prefixes, row_in, said};
 ghost use Rattle.iso_import.specs.Kinds.{named_in};
-ghost use Rattle.iso_import.specs.Found.{draft_of, found, found_count, has_number, CanJoin, CanStand};
+ghost use Rattle.iso_import.specs.Found.{found, found_count, has_number, CanJoin, CanStand};
 ghost use Rattle.iso_import.specs.Found.{GoOn, IsDraftOf};
-ghost use Rattle.iso_import.specs.Told.{good_row_in, is_specification, AreLeft, IsOfFields, IsToldBy};
-ghost use Rattle.iso_import.specs.Told.{fields_in, Refuses};
-ghost use Rattle.iso_import.specs.Step.{IsRow, TakesField};
+ghost use Rattle.iso_import.specs.Told.{good_row_in, is_specification, IsOfFields};
+ghost use Rattle.iso_import.specs.Told.{fields_in, RefusesAs};
+ghost use Rattle.iso_import.specs.Step.{AreFound, IsRow, TakesField};
 
 use crate::fault::ImportFault;
 use crate::kinds::Kind;
@@ -199,8 +199,7 @@ fn take_field(alloc: Global, taken: &mut Taken, key: &str, field: &Value) -> Res
 /// The JSON value of a text.
 fn value_of(alloc: Global, text: &str) -> Result<Value, ImportFault>
     ensures value { IfOk result (λ value. read text.now ≡ Some (view value)) }
-    ensures fault { IfErr result (λ fault. IsTrue (is_specification text.now)
-        → Refuses text.now fault) }
+    ensures fault { IfErr result (RefusesAs is_specification text.now) }
     ensures text { IsErrOf result NotText → ⊥ }
 {
     match Value::from_str(alloc, text) {
@@ -224,10 +223,8 @@ fn fields_of(value: &Value) -> Option<&Map<String, Value>>
 /// What the fields of a specification tell, taken in the order of their keys.
 fn taken_from(alloc: Global, fields: &Map<String, Value>) -> Result<Taken, AllocError>
     ensures rows { IfOk result (λ taken. CanStand taken.rows.items) }
-    ensures told { IfOk result (λ taken. (version : ℕ)
-        → IsToldBy (members_view fields.now.entries) (draft_of version (found taken))) }
-    ensures left { IfOk result (λ taken. (version : ℕ) → AreLeft (members_view fields.now.entries)
-        (draft_of version (found taken)) (length taken.left.items)) }
+    ensures told { IfOk result (λ taken. AreFound (members_view fields.now.entries) (found taken)
+        (length taken.left.items)) }
 {
     let mut taken = Taken::new(alloc);
     for (key, field) in fields {
@@ -245,8 +242,7 @@ pub(crate) fn specification_in(
     ensures draft { IfOk result (λ imported. IsDraftOf version (contents imported.draft)) }
     ensures told { IfOk result (λ imported. IsOfFields text.now (contents imported.draft)
         (length imported.left.items)) }
-    ensures fault { IfErr result (λ fault. IsTrue (is_specification text.now)
-        → Refuses text.now fault) }
+    ensures fault { IfErr result (RefusesAs is_specification text.now) }
     ensures text { IsErrOf result NotText → ⊥ }
 {
     let value = value_of(alloc, text)?;

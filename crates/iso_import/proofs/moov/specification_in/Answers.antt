@@ -15,7 +15,7 @@ returns-in-Some-clause-told c =
       fields = fields;
       reads = c.in_ok-value.ensures.value;
       found = sym c.fields_of.ensures ∙ ap (option_map (λ fs. members_view fs.now.entries)) c.in-Some.is;
-      told = subst (IsToldBy fields) draft (c.in_ok-taken_from-in-Some.ensures.told c.args.version);
+      told = subst (IsToldBy fields) draft (c.in_ok-taken_from-in-Some.ensures.told.told c.args.version);
       left = subst (λ d. AreLeft fields d (length c.into_imported.result.left.items)) draft
-          (subst (λ ss. AreLeft fields (draft_of c.args.version (found taken)) (length ss)) (sym c.into_imported.ensures.left) (c.in_ok-taken_from-in-Some.ensures.left c.args.version));
+          (subst (λ ss. AreLeft fields (draft_of c.args.version (found taken)) (length ss)) (sym c.into_imported.ensures.left) (c.in_ok-taken_from-in-Some.ensures.told.others c.args.version));
     }
