@@ -167,7 +167,8 @@ fn free_row(taken: &Taken, number: u16, field: &Value) -> Result<FieldSpec, &'st
     ensures free { IfOk result (λ spec. CanJoin taken.now.rows.items number spec) }
     ensures row { IfOk result (λ spec. good_row_in (view field.now) ≡ Some spec) }
     ensures none { IfErr result (λ why. IsTrue (is_element number)
-        → has_number taken.now.rows.items number ≡ false → good_row_in (view field.now) ≡ None) }
+        → has_number taken.now.rows.items number ≡ false
+        → good_row_in (view field.now) ≡ None) }
 {
     match taken.refusal_of(number) {
         Some(why) => Err(why),
