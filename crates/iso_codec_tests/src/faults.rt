@@ -25,7 +25,6 @@ pub(super) fn is_debugged(alloc: Global, value: &impl Debug, want: &str) -> bool
 }
 
 /// Each fault that has a number.
-#[derive(Drop)]
 enum Numbered {
     Field(FieldFault),
     Row(SpecFault),

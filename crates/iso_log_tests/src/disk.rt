@@ -8,7 +8,7 @@ use std::alloc::{AllocError, Global};
 use std::io;
 
 /// Which bytes of what isn't synced a crash leaves as they were written.
-#[derive(Clone, Copy, Debug, PartialEq, Eq)]
+#[derive(Clone, Copy)]
 pub enum Tear {
     /// Those in front of a place.
     Front(usize),

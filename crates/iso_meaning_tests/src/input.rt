@@ -1,6 +1,9 @@
 //! Dumps as the programs write them, faulty texts, and inputs in pieces.
 
+use super::checks::{check_bytes, is_shown};
+use iso_fakes::check;
 use iso_input::{InputFault, Window, append_hex, read_whole};
+use std::alloc::Global;
 use std::io;
 use std::io::{ErrorKind, Read};
 use std::test::Fail;
@@ -20,12 +23,16 @@ const TEXTS: &[&[u8]] = &[
       0010   30 32                                             02\n",
 ];
 
+/// Whether the text dumps the bytes.
+fn is_dump(alloc: Global, text: &[u8]) -> bool {
+    let mut out = Vec::new(alloc);
+    append_hex(text, &mut out).is_ok() && out.as_slice() == BYTES
+}
+
 #[test]
 fn texts(rt: HostRuntime) -> Result<(), Fail> {
     for text in TEXTS {
-        let mut out = Vec::new(rt.alloc());
-        append_hex(text, &mut out)?;
-        assert_eq!(rt; out.as_slice(), BYTES);
+        check_bytes(is_dump(rt.alloc(), *text), *text)?;
     }
     Ok(())
 }
@@ -50,17 +57,19 @@ const FAULTY: &[(&[u8], &str)] = &[
     ),
 ];
 
+/// Whether that is wrong with the text.
+fn is_faulty(alloc: Global, text: &[u8], wanted: &str) -> bool {
+    let mut out = Vec::new(alloc);
+    match append_hex(text, &mut out) {
+        Ok(()) => false,
+        Err(fault) => is_shown(alloc, &fault, wanted),
+    }
+}
+
 #[test]
 fn faults(rt: HostRuntime) -> Result<(), Fail> {
     for (text, wanted) in FAULTY {
-        let mut out = Vec::new(rt.alloc());
-        match append_hex(text, &mut out) {
-            Ok(()) => assert!(rt; false, "{wanted}"),
-            Err(fault) => {
-                let sentence = format!(in rt.alloc(); "{fault}")?;
-                assert_eq!(rt; sentence.as_str(), *wanted);
-            }
-        }
+        check(is_faulty(rt.alloc(), *text, *wanted), *wanted)?;
     }
     Ok(())
 }
@@ -88,28 +97,53 @@ impl Read for Bytes {
     }
 }
 
-#[test]
-fn inputs(rt: HostRuntime) -> Result<(), Fail> {
+/// Whether an input is read whole.
+fn is_read_whole(alloc: Global) -> bool {
     let mut input = Bytes {
         bytes: b"0200",
         fails: 9,
     };
-    let bytes = read_whole(rt.alloc(), &mut input, 4)?;
-    assert_eq!(rt; bytes.as_slice(), b"0200".as_slice());
-    let mut window = Window::new(
-        rt.alloc(),
-        Bytes {
-            bytes: b"0210",
-            fails: 1,
-        },
-    );
-    assert!(rt; window.read_more()?);
-    assert!(rt; window.read_more()?);
-    assert_eq!(rt; window.held(), b"02".as_slice());
+    match read_whole(alloc, &mut input, 4) {
+        Ok(bytes) => bytes.as_slice() == b"0200".as_slice(),
+        Err(_) => false,
+    }
+}
+
+/// Whether more is read, and these bytes are held then.
+fn is_read(window: &mut Window<Bytes>, held: &[u8]) -> bool {
+    window.read_more() == Ok(true) && window.held() == held
+}
+
+/// Whether the first byte is let go, and these bytes are held then.
+fn is_let_go(window: &mut Window<Bytes>, held: &[u8]) -> bool {
+    if window.held().is_empty() {
+        return false;
+    }
     window.drop_front(1);
-    assert!(rt; window.read_more()?);
-    assert_eq!(rt; window.held(), b"21".as_slice());
-    assert_eq!(rt; window.read_more(), Err(InputFault::Read));
-    assert_eq!(rt; window.held(), b"21".as_slice());
-    Ok(())
+    window.held() == held
+}
+
+/// Whether nothing more can be read, and these bytes are held then.
+fn is_refused(window: &mut Window<Bytes>, held: &[u8]) -> bool {
+    window.read_more() == Err(InputFault::Read) && window.held() == held
+}
+
+/// Whether bytes come one by one, and those that are held stay where nothing more can be read.
+fn is_held(window: &mut Window<Bytes>) -> bool {
+    is_read(window, b"0")
+        && is_read(window, b"02")
+        && is_let_go(window, b"2")
+        && is_read(window, b"21")
+        && is_refused(window, b"21")
+}
+
+#[test]
+fn inputs(rt: HostRuntime) -> Result<(), Fail> {
+    check(is_read_whole(rt.alloc()), "an input that is read whole")?;
+    let input = Bytes {
+        bytes: b"0210",
+        fails: 1,
+    };
+    let mut window = Window::new(rt.alloc(), input);
+    check(is_held(&mut window), "an input in pieces")
 }

@@ -3,6 +3,8 @@
 #![tactic(auto)]
 
 #[cfg(test)]
+mod checks;
+#[cfg(test)]
 mod compare;
 #[cfg(test)]
 mod input;
@@ -12,5 +14,7 @@ mod links;
 mod meaning;
 #[cfg(test)]
 mod names;
+#[cfg(test)]
+mod networks;
 #[cfg(test)]
 mod replay;

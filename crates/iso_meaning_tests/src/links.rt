@@ -1,139 +1,12 @@
-//! Networks and documents of links, as an operator writes them.
+//! Documents of links, as an operator writes them.
 
-use iso_links::{Limits, LinksFault, Network, Terms, read_links};
+use super::checks::is_shown;
+use iso_fakes::{check, check_of};
+use iso_links::{Limits, LinksFault, Terms, read_links};
 use iso_wire::Header;
 use std::alloc::{AllocError, Global};
 use std::net::IpAddr;
-use std::process::Abort;
 use std::test::Fail;
-
-/// The name of a row, a network, an address, and whether it is in that network.
-const ADDRESSES: &[(&str, &str, &str, bool)] = &[
-    ("first of a class A", "10.0.0.0/8", "10.0.0.0", true),
-    ("last of a class A", "10.0.0.0/8", "10.255.255.255", true),
-    ("one before", "10.0.0.0/8", "9.255.255.255", false),
-    ("one behind", "10.0.0.0/8", "11.0.0.0", false),
-    ("inside a byte", "172.16.0.0/12", "172.31.255.255", true),
-    ("behind that", "172.16.0.0/12", "172.32.0.0", false),
-    ("one address", "192.0.2.7", "192.0.2.7", true),
-    ("another address", "192.0.2.7", "192.0.2.6", false),
-    (
-        "one address, its length told",
-        "192.0.2.7/32",
-        "192.0.2.7",
-        true,
-    ),
-    ("half of all", "128.0.0.0/1", "127.255.255.255", false),
-    ("any IPv4 address", "0.0.0.0/0", "203.0.113.9", true),
-    (
-        "any IPv4 address, and one of IPv6",
-        "0.0.0.0/0",
-        "2001:db8::1",
-        false,
-    ),
-    ("any IPv6 address", "::/0", "2001:db8::1", true),
-    (
-        "any IPv6 address, and one of IPv4",
-        "::/0",
-        "203.0.113.9",
-        false,
-    ),
-    (
-        "any IPv6 address, and one that holds IPv4",
-        "::/0",
-        "::ffff:203.0.113.9",
-        false,
-    ),
-    (
-        "first of an IPv6 network",
-        "2001:db8::/32",
-        "2001:db8::",
-        true,
-    ),
-    (
-        "last of an IPv6 network",
-        "2001:db8::/32",
-        "2001:db8:ffff:ffff:ffff:ffff:ffff:ffff",
-        true,
-    ),
-    (
-        "behind an IPv6 network",
-        "2001:db8::/32",
-        "2001:db9::",
-        false,
-    ),
-    ("one IPv6 address", "::1", "::1", true),
-    ("another IPv6 address", "::1", "::2", false),
-    (
-        "an IPv4 address that came by IPv6",
-        "10.0.0.0/8",
-        "::ffff:10.1.2.3",
-        true,
-    ),
-    (
-        "another that came by IPv6",
-        "10.0.0.0/8",
-        "::ffff:11.1.2.3",
-        false,
-    ),
-    (
-        "an IPv4 address in the low bits",
-        "10.0.0.0/8",
-        "::10.1.2.3",
-        false,
-    ),
-];
-
-/// Whether an address is in a network, where both are written.
-fn is_in(network: &str, address: &str) -> Option<bool> {
-    let network = Network::from_text(network)?;
-    match address.parse::<IpAddr>() {
-        Ok(address) => Some(network.has(address)),
-        Err(_) => None,
-    }
-}
-
-#[test]
-fn networks(rt: HostRuntime) {
-    for (name, network, address, wanted) in ADDRESSES {
-        assert!(rt; is_in(network, address) == Some(*wanted), "{name}");
-    }
-}
-
-/// What no network is.
-const NO_NETWORKS: &[&str] = &[
-    "",
-    "/",
-    "/8",
-    "10.0.0.0/",
-    "10.0.0.0/33",
-    "10.0.0.0/-1",
-    "10.0.0.0/+8",
-    "10.0.0.0/08",
-    "10.0.0.0/8/8",
-    "10.0.0.0 /8",
-    "10.0.0/8",
-    "10.0.0.1/8",
-    "10.0.0.1/31",
-    "0.0.0.1/0",
-    "010.0.0.0/8",
-    "256.0.0.0/8",
-    "2001:db8::/129",
-    "2001:db8::/1000",
-    "2001:db8::1/32",
-    "::1/0",
-    "[::1]",
-    "::ffff:10.0.0.0/104",
-    "localhost",
-    "10.0.0.0:8583",
-];
-
-#[test]
-fn no_networks(rt: HostRuntime) {
-    for text in NO_NETWORKS {
-        assert!(rt; Network::from_text(text).is_none(), "{text}");
-    }
-}
 
 /// A link with all its members.
 const ALL: &str =
@@ -193,27 +66,45 @@ fn lets_connect(terms: &Terms, address: &str) -> bool {
     }
 }
 
+/// Whether peers of the networks of `ALL` may connect, and another may not.
+fn lets_its_own_connect(terms: &Terms) -> bool {
+    lets_connect(terms, "10.1.1.1")
+        && lets_connect(terms, "2001:db8::1")
+        && !lets_connect(terms, "127.0.0.1")
+}
+
+/// That the terms are those of `ALL`.
+fn check_all(terms: &Terms) -> Result<(), Fail> {
+    check(is_of_all(terms), "its members")?;
+    check(are_of_all(&terms.limits), "its limits")?;
+    check(speaks_for_its_own(terms), "its acquirers")?;
+    check(lets_its_own_connect(terms), "its networks")
+}
+
 #[test]
 fn a_link_with_all_its_members(rt: HostRuntime) -> Result<(), Fail> {
     let terms = only_link(rt.alloc(), ALL)?;
-    assert!(rt; is_of_all(&terms) && are_of_all(&terms.limits));
-    assert!(rt; speaks_for_its_own(&terms));
-    assert!(rt; lets_connect(&terms, "10.1.1.1") && lets_connect(&terms, "2001:db8::1"));
-    assert!(rt; !lets_connect(&terms, "127.0.0.1"));
-    Ok(())
+    check_all(&terms)
 }
 
 /// A link with no more members than it has to have.
 const LEAST: &str =
     r#"{"links":[{"name":"atm","listen":"[::1]:0","table":"ascii87","header":"ascii4"}]}"#;
 
+/// That the terms are those of `LEAST`.
+fn check_least(terms: &Terms) -> Result<(), Fail> {
+    let is_default = terms.skip == 0 && terms.limits == Limits::DEFAULT;
+    check(is_default, "its members and limits")?;
+    let lets_all = terms.networks.is_empty() && lets_connect(terms, "203.0.113.9");
+    check(lets_all, "any network")?;
+    let speaks_for_all = terms.acquirers.is_empty() && terms.speaks_for(99_999_999_999);
+    check(speaks_for_all, "any acquirer")
+}
+
 #[test]
 fn a_link_with_its_defaults(rt: HostRuntime) -> Result<(), Fail> {
     let terms = only_link(rt.alloc(), LEAST)?;
-    assert!(rt; terms.skip == 0 && terms.limits == Limits::DEFAULT);
-    assert!(rt; terms.networks.is_empty() && lets_connect(&terms, "203.0.113.9"));
-    assert!(rt; terms.acquirers.is_empty() && terms.speaks_for(99_999_999_999));
-    Ok(())
+    check_least(&terms)
 }
 
 /// A document, and what is told of it.
@@ -258,17 +149,16 @@ const REFUSED: &[Refused] = &[
 #[test]
 fn refused_documents(rt: HostRuntime) -> Result<(), Fail> {
     for row in REFUSED {
-        let told = told_of(rt.alloc(), row.text)?;
-        assert!(rt; told.as_str() == row.told, "{told}");
+        check_of(is_told(rt.alloc(), row.text, row.told), row.text, row.told)?;
     }
     Ok(())
 }
 
-/// What is told of a document; nothing of one that is good.
-fn told_of(alloc: Global, text: &str) -> Result<String, AllocError> {
+/// Whether that is told of a document; nothing of one that is good.
+fn is_told(alloc: Global, text: &str, told: &str) -> bool {
     match read_links(alloc, text.as_bytes()) {
-        Ok(_) => Ok(String::new(alloc)),
-        Err(fault) => format!(in alloc; "{fault}"),
+        Ok(_) => told.is_empty(),
+        Err(fault) => is_shown(alloc, &fault, told),
     }
 }
 
@@ -310,21 +200,33 @@ const MEMBERS: &[(&str, &str)] = &[
     ("\"limits\":{\"waiting\":1073741825}", "waiting"),
 ];
 
-/// Whether the member is what is wrong with a second link that has this in its place.
-fn blames(alloc: Global, text: &str, name: &str) -> Result<bool, AllocError> {
-    let text = format!(in alloc;
-        "{{\"links\":[{{\"name\":\"a\",\"listen\":\"127.0.0.1:1\",\"table\":\"ascii87\",\"header\":\"ascii4\"}},{{\"name\":\"b\",\"listen\":\"127.0.0.1:2\",\"table\":\"ascii87\",\"header\":\"ascii4\",{text}}}]}}"
-    )?;
-    Ok(match read_links(alloc, text.as_bytes()) {
+/// Whether the member of the second link is what is wrong with the document.
+fn is_blamed(alloc: Global, text: &str, name: &str) -> bool {
+    match read_links(alloc, text.as_bytes()) {
         Err(LinksFault::Member { link, member }) => link == 2 && member.name() == name,
         _ => false,
-    })
+    }
+}
+
+/// A document of two links, the second with this behind its good members.
+fn with_member(alloc: Global, text: &str) -> Result<String, AllocError> {
+    format!(in alloc;
+        "{{\"links\":[{{\"name\":\"a\",\"listen\":\"127.0.0.1:1\",\"table\":\"ascii87\",\"header\":\"ascii4\"}},{{\"name\":\"b\",\"listen\":\"127.0.0.1:2\",\"table\":\"ascii87\",\"header\":\"ascii4\",{text}}}]}}"
+    )
+}
+
+/// Whether the member is what is wrong with a second link that has this in its place.
+fn blames(alloc: Global, text: &str, name: &str) -> bool {
+    match with_member(alloc, text) {
+        Ok(document) => is_blamed(alloc, &document, name),
+        Err(_) => false,
+    }
 }
 
 #[test]
 fn refused_members(rt: HostRuntime) -> Result<(), Fail> {
     for (text, name) in MEMBERS {
-        assert!(rt; blames(rt.alloc(), text, name)?, "{text}");
+        check(blames(rt.alloc(), *text, *name), *text)?;
     }
     Ok(())
 }
@@ -336,32 +238,38 @@ const PAIRS: &[(&str, u16, &str, u16, &str)] = &[
     ("a", 1, "b", 1, "link 2: its address is that of link 1"),
 ];
 
-/// What is told of a document of two links.
-fn told_of_pair(
+/// A document of two links.
+fn pair_of(
     alloc: Global,
     one: &str,
     first: u16,
     other: &str,
     second: u16,
 ) -> Result<String, AllocError> {
-    let text = format!(in alloc;
+    format!(in alloc;
         "{{\"links\":[{{\"name\":\"{one}\",\"listen\":\"127.0.0.1:{first}\",\"table\":\"ascii87\",\"header\":\"ascii4\"}},{{\"name\":\"{other}\",\"listen\":\"127.0.0.1:{second}\",\"table\":\"bcd87\",\"header\":\"bcd2\"}}]}}"
-    )?;
-    told_of(alloc, &text)
+    )
+}
+
+/// Whether that is told of a document that was made.
+fn is_told_of_made(alloc: Global, text: Result<String, AllocError>, told: &str) -> bool {
+    match text {
+        Ok(text) => is_told(alloc, &text, told),
+        Err(_) => false,
+    }
 }
 
 #[test]
 fn links_apart(rt: HostRuntime) -> Result<(), Fail> {
     for (one, first, other, second, wanted) in PAIRS {
-        let told = told_of_pair(rt.alloc(), one, *first, other, *second)?;
-        assert!(rt; told.as_str() == *wanted, "{told}");
+        let text = pair_of(rt.alloc(), *one, *first, *other, *second);
+        check_of(is_told_of_made(rt.alloc(), text, *wanted), *other, *wanted)?;
     }
     Ok(())
 }
 
-/// A document of so many links.
-fn many(alloc: Global, count: usize) -> Result<String, AllocError> {
-    let mut text = String::from_str(alloc, "{\"links\":[")?;
+/// Appends so many links.
+fn append_links(count: usize, text: &mut String) -> Result<(), AllocError> {
     for place in 0..count {
         let comma = if place == 0 { "" } else { "," };
         write!(
@@ -369,16 +277,39 @@ fn many(alloc: Global, count: usize) -> Result<String, AllocError> {
             "{comma}{{\"name\":\"l{place}\",\"listen\":\"127.0.0.1:{place}\",\"table\":\"ascii87\",\"header\":\"ascii4\"}}"
         )?;
     }
+    Ok(())
+}
+
+/// A document of so many links.
+fn many(alloc: Global, count: usize) -> Result<String, AllocError> {
+    let mut text = String::from_str(alloc, "{\"links\":[")?;
+    append_links(count, &mut text)?;
     text.push_str("]}")?;
     Ok(text)
 }
 
+/// Whether a document of so many links is read as so many.
+fn are_read(alloc: Global, count: usize) -> bool {
+    match many(alloc, count) {
+        Ok(text) => has_links(alloc, &text, count),
+        Err(_) => false,
+    }
+}
+
+/// Whether the document is read as one of so many links.
+fn has_links(alloc: Global, text: &str, count: usize) -> bool {
+    match read_links(alloc, text.as_bytes()) {
+        Ok(links) => links.len() == count,
+        Err(_) => false,
+    }
+}
+
 #[test]
 fn how_many_links(rt: HostRuntime) -> Result<(), Fail> {
-    let (most, over) = (many(rt.alloc(), 64)?, many(rt.alloc(), 65)?);
-    assert!(rt; read_links(rt.alloc(), most.as_bytes())?.len() == 64);
-    assert!(rt;
-        told_of(rt.alloc(), &over)?.as_str() == "there are to be 1 to 64 links, and not 65"
-    );
-    Ok(())
+    check(are_read(rt.alloc(), 64), "64 links")?;
+    let told = "there are to be 1 to 64 links, and not 65";
+    check(
+        is_told_of_made(rt.alloc(), many(rt.alloc(), 65), told),
+        told,
+    )
 }

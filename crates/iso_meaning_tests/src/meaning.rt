@@ -1,10 +1,13 @@
 //! Worked rows: what values mean, by the standards' own lists.
 
+use super::checks::{check_bytes, check_element};
+use iso_fakes::check;
 use iso_meaning::{
-    ChipFault, Part, account_type, amount_type, class_word, currency_of, items, parts,
+    ChipFault, Item, Part, account_type, amount_type, class_word, currency_of, items, parts,
     push_chip_value, push_moment, push_track2, response_code, tag_name, track2, transaction_type,
     version_word,
 };
+use std::alloc::Global;
 use std::test::Fail;
 
 /// A response code and its meaning.
@@ -32,26 +35,32 @@ const TRANSACTIONS: &[(&[u8], Option<&str>)] = &[
 ];
 
 #[test]
-fn response_codes(rt: HostRuntime) {
+fn response_codes() -> Result<(), Fail> {
     for (code, wanted) in RESPONSES {
-        assert_eq!(rt; response_code(code), *wanted);
+        check_bytes(response_code(*code) == *wanted, *code)?;
     }
+    Ok(())
 }
 
 #[test]
-fn transaction_types(rt: HostRuntime) {
+fn transaction_types() -> Result<(), Fail> {
     for (code, wanted) in TRANSACTIONS {
-        assert_eq!(rt; transaction_type(code), *wanted);
+        check_bytes(transaction_type(*code) == *wanted, *code)?;
     }
+    Ok(())
+}
+
+/// Whether account types have their meaning.
+fn are_account_types() -> bool {
+    account_type(b"20") == Some("Cheque") && account_type(b"21") == None
 }
 
 #[test]
-fn other_codes(rt: HostRuntime) {
-    assert_eq!(rt; account_type(b"20"), Some("Cheque"));
-    assert_eq!(rt; account_type(b"21"), None);
-    assert_eq!(rt; amount_type(b"02"), Some("Available balance"));
-    assert_eq!(rt; class_word(2), Some("Financial"));
-    assert_eq!(rt; version_word(3), None);
+fn other_codes() -> Result<(), Fail> {
+    check(are_account_types(), "account types")?;
+    check(amount_type(b"02") == Some("Available balance"), "an amount")?;
+    check(class_word(2) == Some("Financial"), "a class")?;
+    check(version_word(3) == None, "a version")
 }
 
 /// A currency's code, its letters and its digits behind the point.
@@ -65,17 +74,26 @@ const CURRENCIES: &[(&[u8], &str, Option<u8>)] = &[
     (b"008", "ALL", Some(2)),
 ];
 
-#[test]
-fn currencies(rt: HostRuntime) -> Result<(), Fail> {
-    for (code, letters, minor_digits) in CURRENCIES {
-        let found = currency_of(code).ok_or("unknown")?;
-        assert_eq!(rt; found.letters, *letters);
-        assert_eq!(rt; found.minor_digits, *minor_digits);
+/// Whether that is the currency of the code.
+fn is_currency(code: &[u8], letters: &str, minor_digits: Option<u8>) -> bool {
+    match currency_of(code) {
+        Some(found) => found.letters == letters && found.minor_digits == minor_digits,
+        None => false,
     }
-    assert!(rt; currency_of(b"000").is_none());
-    assert!(rt; currency_of(b"USD").is_none());
-    assert!(rt; currency_of(b"84").is_none());
-    Ok(())
+}
+
+/// Whether the code is no currency's.
+fn is_no_currency(code: &[u8]) -> bool {
+    currency_of(code).is_none()
+}
+
+#[test]
+fn currencies() -> Result<(), Fail> {
+    for (code, letters, minor_digits) in CURRENCIES {
+        check(is_currency(*code, *letters, *minor_digits), *letters)?;
+    }
+    let are_none = is_no_currency(b"000") && is_no_currency(b"USD") && is_no_currency(b"84");
+    check(are_none, "codes of no currency")
 }
 
 /// A value and the moment that it tells.
@@ -95,13 +113,16 @@ const MOMENTS: &[(&[u8], &str)] = &[
     (b"01x2", ""),
 ];
 
+/// Whether that is the moment of the value; empty if it has none.
+fn is_moment(alloc: Global, value: &[u8], wanted: &str) -> bool {
+    let mut out = Vec::new(alloc);
+    push_moment(value, &mut out) == Ok(!wanted.is_empty()) && out.as_slice() == wanted.as_bytes()
+}
+
 #[test]
 fn moments(rt: HostRuntime) -> Result<(), Fail> {
     for (value, wanted) in MOMENTS {
-        let mut out = Vec::new(rt.alloc());
-        let known = push_moment(value, &mut out)?;
-        assert_eq!(rt; out.as_slice(), wanted.as_bytes());
-        assert_eq!(rt; known, !wanted.is_empty());
+        check_bytes(is_moment(rt.alloc(), *value, *wanted), *value)?;
     }
     Ok(())
 }
@@ -163,15 +184,20 @@ const PARTS: &[(u8, usize, usize, Part)] = &[
 /// A value of the greatest size.
 const DIGITS: &[u8] = &[b'0'; 120];
 
+/// Whether a value of that size has so many parts, and that one among them.
+fn has_part(element: u8, size: usize, count: usize, part: &Part) -> bool {
+    let split = parts(element, DIGITS.get(..size).unwrap_or(&[]));
+    split.len() == count && split.contains(part)
+}
+
 #[test]
-fn made_of_parts(rt: HostRuntime) {
-    for (element, size, count, second) in PARTS {
-        let split = parts(*element, DIGITS.get(..*size).unwrap_or(&[]));
-        assert_eq!(rt; split.len(), *count);
-        assert!(rt; split.contains(second));
+fn made_of_parts() -> Result<(), Fail> {
+    for (element, size, count, part) in PARTS {
+        let is_so = has_part(*element, *size, *count, part);
+        check_element(is_so, *element, *size)?;
     }
-    assert!(rt; parts(90, b"0200").is_empty());
-    assert!(rt; parts(2, b"411111").is_empty());
+    let are_none = parts(90, b"0200").is_empty() && parts(2, b"411111").is_empty();
+    check(are_none, "values without parts")
 }
 
 /// Track 2 data and what a bystander reads of them.
@@ -186,23 +212,36 @@ const TRACKS: &[(&[u8], &str)] = &[
     (b"", ""),
 ];
 
+/// Whether that is read of a track, in clear or not.
+fn is_track(alloc: Global, value: &[u8], is_clear: bool, wanted: &[u8]) -> bool {
+    let mut out = Vec::new(alloc);
+    push_track2(value, is_clear, &mut out).is_ok() && out.as_slice() == wanted
+}
+
+/// Whether the parts of a track end there.
+fn ends_at(value: &[u8], account: usize, expiry: usize, service: usize) -> bool {
+    match track2(value) {
+        Some(track) => {
+            track.account.end == account
+                && track.expiry.end == expiry
+                && track.service.end == service
+        }
+        None => false,
+    }
+}
+
 #[test]
 fn tracks(rt: HostRuntime) -> Result<(), Fail> {
     for (value, wanted) in TRACKS {
-        let mut out = Vec::new(rt.alloc());
-        push_track2(value, false, &mut out)?;
-        assert_eq!(rt; out.as_slice(), wanted.as_bytes());
-        out.clear();
-        push_track2(value, true, &mut out)?;
-        assert_eq!(rt; out.as_slice(), *value);
+        let is_masked = is_track(rt.alloc(), *value, false, wanted.as_bytes());
+        check_bytes(
+            is_masked && is_track(rt.alloc(), *value, true, *value),
+            *value,
+        )?;
     }
-    let track = track2(b"4111111111111111=25121010000012345678").ok_or("no separator")?;
-    assert_eq!(rt;
-        (track.account.end, track.expiry.end, track.service.end),
-        (16, 21, 24)
-    );
-    assert!(rt; track2(b"4111111111111111").is_none());
-    Ok(())
+    let has_parts = ends_at(b"4111111111111111=25121010000012345678", 16, 21, 24);
+    check(has_parts, "the parts of a track")?;
+    check(track2(b"4111111111111111").is_none(), "no separator")
 }
 
 /// An amount, a template with an account number and its sequence number, and a tag without a name.
@@ -218,24 +257,37 @@ const OBJECTS: &[(u32, usize, usize, &str)] = &[
     (0xDF01, 0, 30, "**"),
 ];
 
+/// Whether that is what a bystander reads of an object.
+fn is_read(alloc: Global, item: &Item, wanted: &str) -> bool {
+    let value = CHIP.get(item.value..item.end).unwrap_or(&[]);
+    let mut out = Vec::new(alloc);
+    push_chip_value(item.tag, value, false, &mut out).is_ok() && out.as_slice() == wanted.as_bytes()
+}
+
+/// Whether an object has that tag, that depth and that end.
+fn is_object(item: &Item, tag: u32, depth: usize, end: usize) -> bool {
+    item.tag == tag && item.depth == depth && item.end == end
+}
+
+/// That the objects are so.
+fn check_objects(alloc: Global, found: &[Item]) -> Result<(), Fail> {
+    for (item, (tag, depth, end, wanted)) in found.iter().zip(OBJECTS) {
+        let is_so = is_object(item, *tag, *depth, *end) && is_read(alloc, item, *wanted);
+        check(is_so, tag_name(*tag).unwrap_or("a tag without a name"))?;
+    }
+    check(found.len() == OBJECTS.len(), "how many objects")
+}
+
+/// Whether a tag has its name, and another has none.
+fn are_named() -> bool {
+    tag_name(0x9F02) == Some("Amount, authorised (numeric)") && tag_name(0xDF01) == None
+}
+
 #[test]
 fn chip_data(rt: HostRuntime) -> Result<(), Fail> {
+    check(are_named(), "names of tags")?;
     let found = items(rt.alloc(), CHIP)?;
-    assert_eq!(rt; found.len(), OBJECTS.len());
-    for (item, (tag, depth, end, wanted)) in found.iter().zip(OBJECTS) {
-        assert_eq!(rt; (item.tag, item.depth, item.end), (*tag, *depth, *end));
-        let mut out = Vec::new(rt.alloc());
-        push_chip_value(
-            item.tag,
-            CHIP.get(item.value..item.end).unwrap_or(&[]),
-            false,
-            &mut out,
-        )?;
-        assert_eq!(rt; out.as_slice(), wanted.as_bytes());
-    }
-    assert_eq!(rt; tag_name(0x9F02), Some("Amount, authorised (numeric)"));
-    assert_eq!(rt; tag_name(0xDF01), None);
-    Ok(())
+    check_objects(rt.alloc(), &found)
 }
 
 /// Bad chip data and what is told of them.
@@ -249,12 +301,18 @@ const BAD_CHIP: &[(&[u8], ChipFault)] = &[
     (b"\x70\x02\x82\x01\x00", ChipFault::Value(4)),
 ];
 
-#[test]
-fn bad_chip_data(rt: HostRuntime) {
-    for (bytes, wanted) in BAD_CHIP {
-        match items(rt.alloc(), bytes) {
-            Ok(_) => assert!(rt; false, "taken"),
-            Err(fault) => assert_eq!(rt; fault, *wanted),
-        }
+/// Whether the chip data are refused for that.
+fn is_bad(alloc: Global, bytes: &[u8], wanted: ChipFault) -> bool {
+    match items(alloc, bytes) {
+        Ok(_) => false,
+        Err(fault) => fault == wanted,
     }
+}
+
+#[test]
+fn bad_chip_data(rt: HostRuntime) -> Result<(), Fail> {
+    for (bytes, wanted) in BAD_CHIP {
+        check_bytes(is_bad(rt.alloc(), *bytes, *wanted), *bytes)?;
+    }
+    Ok(())
 }

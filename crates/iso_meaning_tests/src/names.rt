@@ -1,8 +1,9 @@
 //! Worked rows: names as the editions have them, and a network's own.
 
+use super::checks::{check_element, is_shown};
+use iso_fakes::check;
 use iso_names::{Names, name};
 use std::alloc::Global;
-use std::process::Abort;
 use std::test::Fail;
 
 /// A version, an element and its name. 1987 has version 0, 1993 version 1 and 2003 version 2.
@@ -31,10 +32,12 @@ const EDITIONS: &[(u8, u8, Option<&str>)] = &[
 ];
 
 #[test]
-fn editions(rt: HostRuntime) {
+fn editions() -> Result<(), Fail> {
     for (version, element, wanted) in EDITIONS {
-        assert_eq!(rt; name(*version, *element), *wanted, "{version}, {element}");
+        let is_so = name(*version, *element) == *wanted;
+        check_element(is_so, *element, usize::from(*version))?;
     }
+    Ok(())
 }
 
 const OWN: &[u8] = br#"{"48":"Merchant data","127":"Private use","2":"Konto"}"#;
@@ -48,16 +51,25 @@ const LAID: &[(u8, Option<&str>)] = &[
     (65, None),
 ];
 
+/// That the elements have these names.
+fn check_laid(names: &Names) -> Result<(), Fail> {
+    for (element, wanted) in LAID {
+        check_element(names.of(*element) == *wanted, *element, 0)?;
+    }
+    Ok(())
+}
+
+/// Whether the names without a network's own are those of 1993.
+fn are_of_1993(alloc: Global) -> bool {
+    let names = Names::new(alloc, 1);
+    names.of(39) == Some("Action code") && names.of(48) == Some("Additional data, private")
+}
+
 #[test]
 fn own_names_come_first(rt: HostRuntime) -> Result<(), Fail> {
+    check(are_of_1993(rt.alloc()), "the names of 1993")?;
     let names = Names::from_json(rt.alloc(), 0, OWN)?;
-    for (element, wanted) in LAID {
-        assert_eq!(rt; names.of(*element), *wanted, "{element}");
-    }
-    let edition = Names::new(rt.alloc(), 1);
-    assert_eq!(rt; edition.of(39), Some("Action code"));
-    assert_eq!(rt; edition.of(48), Some("Additional data, private"));
-    Ok(())
+    check_laid(&names)
 }
 
 /// A document of own names that is refused, and what is told of it.
@@ -82,22 +94,18 @@ const REFUSED: &[(&[u8], &str)] = &[
     ),
 ];
 
-/// Checks that the document is refused, and how.
-fn check_refused(rt: &impl Abort, alloc: Global, text: &[u8], wanted: &str) -> Result<(), Fail> {
+/// Whether the document is refused so.
+fn is_refused(alloc: Global, text: &[u8], wanted: &str) -> bool {
     match Names::from_json(alloc, 0, text) {
-        Ok(_) => assert!(rt; false, "{wanted}: taken"),
-        Err(fault) => {
-            let told = format!(in alloc; "{fault}")?;
-            assert_eq!(rt; told.as_str(), wanted);
-        }
+        Ok(_) => false,
+        Err(fault) => is_shown(alloc, &fault, wanted),
     }
-    Ok(())
 }
 
 #[test]
 fn refusals(rt: HostRuntime) -> Result<(), Fail> {
     for (text, wanted) in REFUSED {
-        check_refused(&rt, rt.alloc(), text, wanted)?;
+        check(is_refused(rt.alloc(), *text, *wanted), *wanted)?;
     }
     Ok(())
 }

@@ -26,7 +26,6 @@ fn set_of_words(words: [u64; 2]) -> Bitmap {
 
 /// A set, two words of it, the first with or without its first bit, the bytes that stand for it, with more bytes behind, and
 /// its highest number.
-#[derive(Drop)]
 struct SetCase {
     name: &'static str,
     numbers: &'static [u8],

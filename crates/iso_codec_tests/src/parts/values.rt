@@ -4,7 +4,6 @@ use super::*;
 use iso_wire::digits_of;
 
 /// A row and a value, and the part that stands for it, with two more bytes behind it.
-#[derive(Drop)]
 struct Case {
     name: &'static str,
     row: FieldSpec,

@@ -4,7 +4,6 @@ use super::*;
 
 /// A row and a value: why the value can't be written, if so, else what stands before it, and whether it is then written as
 /// it is.
-#[derive(Drop)]
 struct Case {
     name: &'static str,
     row: FieldSpec,

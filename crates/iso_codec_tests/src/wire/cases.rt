@@ -225,6 +225,14 @@ pub(super) fn is_message(message: &Message, mti: u16, elements: &[(u8, &[u8])]) 
     message.mti().number() == mti && gives(message, elements)
 }
 
+/// Whether the message is written as the bytes alone.
+fn is_packed(alloc: Global, table: &Table, message: &Message, bytes: &[u8]) -> bool {
+    match pack(alloc, table, message) {
+        Ok(packed) => packed.as_slice() == bytes,
+        Err(_) => false,
+    }
+}
+
 /// Whether the message is written as the bytes, alone and behind `ab`.
 fn is_written(
     alloc: Global,
@@ -236,10 +244,7 @@ fn is_written(
     out.truncate(2);
     append_message(table, message, out).is_ok()
         && out.strip_prefix(b"ab") == Some(bytes)
-        && match pack(alloc, table, message) {
-            Ok(packed) => packed.as_slice() == bytes,
-            Err(_) => false,
-        }
+        && is_packed(alloc, table, message, bytes)
 }
 
 /// Whether a case is read, and what is read is written.

@@ -339,11 +339,23 @@ fn check_elements(alloc: Global, first: &Message) -> Result<(), Fail> {
     check_messages(alloc, first, EQUALS)
 }
 
+/// That messages hold what is set, beside the first one.
+fn check_all(alloc: Global, first: &Message) -> Result<(), Fail> {
+    check_values(alloc, first)?;
+    check_elements(alloc, first)?;
+    check_messages(alloc, first, CHANGED)
+}
+
+/// That messages hold what is set, beside a first one of that type.
+fn check_beside_first(alloc: Global, mti: Mti) -> Result<(), Fail> {
+    let first = first_message(alloc, mti)?;
+    check_all(alloc, &first)
+}
+
 #[test]
 fn messages_hold_what_is_set(rt: HostRuntime) -> Result<(), Fail> {
-    let mti = Mti::from_digits(100).ok_or("not four digits")?;
-    let first = first_message(rt.alloc(), mti)?;
-    check_values(rt.alloc(), &first)?;
-    check_elements(rt.alloc(), &first)?;
-    check_messages(rt.alloc(), &first, CHANGED)
+    match Mti::from_digits(100) {
+        Some(mti) => check_beside_first(rt.alloc(), mti),
+        None => check(false, "not four digits"),
+    }
 }

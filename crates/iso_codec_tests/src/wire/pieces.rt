@@ -78,15 +78,24 @@ fn comes(unpacker: &mut Unpacker, alloc: Global, event: Event) -> bool {
     }
 }
 
-/// The name of the first event of which something else comes, in an unpacker of the table; empty if there is none.
-fn first_failed(alloc: Global, table: &Table, events: &[(&'static str, Event)]) -> &'static str {
-    let mut unpacker = Unpacker::new(alloc, table);
+/// The name of the first event of which something else comes; empty if there is none.
+fn first_failed_in(
+    unpacker: &mut Unpacker,
+    alloc: Global,
+    events: &[(&'static str, Event)],
+) -> &'static str {
     for (name, event) in events {
-        if !comes(&mut unpacker, alloc, *event) {
+        if !comes(unpacker, alloc, *event) {
             return *name;
         }
     }
     ""
+}
+
+/// The name of the first one in an unpacker of the table; empty if there is none.
+fn first_failed(alloc: Global, table: &Table, events: &[(&'static str, Event)]) -> &'static str {
+    let mut unpacker = Unpacker::new(alloc, table);
+    first_failed_in(&mut unpacker, alloc, events)
 }
 
 /// Whether the message of the case is read where it is fed in two pieces, cut at `size`.
@@ -99,6 +108,29 @@ pub(super) fn is_read_in_two(alloc: Global, table: &Table, known: Known, size: u
         && comes(&mut unpacker, alloc, End(back, used, known))
 }
 
+/// Whether the message of the case ends behind so many pieces of one size that end none, and so many bytes of the last piece are
+/// used.
+fn is_fed(
+    unpacker: &mut Unpacker,
+    alloc: Global,
+    case: Case,
+    size: usize,
+    wanted: usize,
+    used: usize,
+) -> bool {
+    let mut left = wanted;
+    for piece in case.bytes.chunks(size.max(1)) {
+        if left == 0 {
+            return is_ended(unpacker, alloc, piece, used, case);
+        }
+        if !is_unfinished(unpacker, alloc, piece) {
+            return false;
+        }
+        left -= 1;
+    }
+    false
+}
+
 /// Whether the message of the case is read in pieces of one size: how often more is wanted before, and how many bytes of the last
 /// piece are used.
 pub(super) fn is_read_in(
@@ -109,19 +141,8 @@ pub(super) fn is_read_in(
     wanted: usize,
     used: usize,
 ) -> bool {
-    let case = case_of(known);
     let mut unpacker = Unpacker::new(alloc, table);
-    let mut left = wanted;
-    for piece in case.bytes.chunks(size.max(1)) {
-        if left == 0 {
-            return is_ended(&mut unpacker, alloc, piece, used, case);
-        }
-        if !is_unfinished(&mut unpacker, alloc, piece) {
-            return false;
-        }
-        left -= 1;
-    }
-    false
+    is_fed(&mut unpacker, alloc, case_of(known), size, wanted, used)
 }
 
 const BAD_CLASS: UnpackFault = UnpackFault {

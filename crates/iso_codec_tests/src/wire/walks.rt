@@ -145,26 +145,32 @@ fn first_bad_bytes(rt: HostRuntime) -> Result<(), Fail> {
     Ok(())
 }
 
+/// Whether that is the value of an element of the view.
+fn has_value(alloc: Global, table: &Table, viewed: &View, n: u8, value: &[u8]) -> bool {
+    match viewed.value(alloc, table, n) {
+        Ok(Some(got)) => got.as_slice() == value,
+        _ => false,
+    }
+}
+
 /// Whether the elements of the view are these, and it gives their values.
-fn gives_viewed(alloc: Global, table: &Table, bytes: &[u8], elements: Elements) -> bool {
-    let Ok(viewed) = view(table, bytes) else {
-        return false;
-    };
+fn has_elements(alloc: Global, table: &Table, viewed: &View, elements: Elements) -> bool {
     let mut left = viewed.iter();
     for (n, value) in elements {
-        if left.next() != Some((*n, *value)) {
+        let is_next = left.next() == Some((*n, *value));
+        if !is_next || !has_value(alloc, table, viewed, *n, *value) {
             return false;
-        }
-        match viewed.value(alloc, table, *n) {
-            Ok(Some(got)) => {
-                if got.as_slice() != *value {
-                    return false;
-                }
-            }
-            _ => return false,
         }
     }
     left.next() == None
+}
+
+/// Whether the elements of the view of some bytes are these.
+fn gives_viewed(alloc: Global, table: &Table, bytes: &[u8], elements: Elements) -> bool {
+    match view(table, bytes) {
+        Ok(viewed) => has_elements(alloc, table, &viewed, elements),
+        Err(_) => false,
+    }
 }
 
 /// Whether the view has no such element.
