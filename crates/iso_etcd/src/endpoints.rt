@@ -1,7 +1,7 @@
 //! Where a journal is kept.
-ghost use Rattle.std.specs.Prelude.{◌≡◌, ◌≤◌, vec_len, IfOk, OnOk};
+ghost use Rattle.std.specs.Prelude.{◌≡◌, ◌≤◌, ◌<◌, length, vec_len, string_bytes, IfOk, IfSome, OnOk};
 ghost use Rattle.iso_etcd.specs.Keys.{name_text};
-ghost use Rattle.iso_etcd.specs.Members.{IsMember};
+ghost use Rattle.iso_etcd.specs.Members.{Has, before, behind, IsMember};
 ghost use Rattle.iso_etcd.specs.Endpoints.{AreMembers, AddsMember, AddsMembers, IsUser, IsWho, IsEndpoints, IsBehindScheme};
 
 use crate::cut::cut;
@@ -9,7 +9,7 @@ use crate::endpoints_fault::EndpointsFault;
 use crate::member::{Member, member_of};
 use crate::name::Name;
 use crate::user::User;
-use std::alloc::Global;
+use std::alloc::{AllocError, Global};
 
 /// The most members.
 pub const MOST_MEMBERS: u8 = 16;
@@ -76,16 +76,37 @@ fn members_of(alloc: Global, text: &str) -> Result<Vec<Member>, EndpointsFault>
     Ok(members)
 }
 
+/// The name and the password of a text, neither of which is empty.
+fn name_and_password(text: &str) -> Option<(&str, &str)>
+    ensures { IfSome result (λ parts. Has 58 text.now × (parts.0.now ≡ before 58 text.now)
+        × (parts.1.now ≡ behind 58 text.now) × (0 < length parts.0.now)
+        × (0 < length parts.1.now)) }
+{
+    let (name, password) = cut(text, ':')?;
+    if name.is_empty() || password.is_empty() {
+        return None;
+    }
+    Some((name, password))
+}
+
+/// A user, by its name and its password.
+fn user_by(alloc: Global, name: &str, password: &str) -> Result<User, AllocError>
+    ensures { IfOk result (λ user. (string_bytes user.name ≡ name.now)
+        × (string_bytes user.password ≡ password.now)) }
+{
+    Ok(User {
+        name: String::from_str(alloc, name)?,
+        password: String::from_str(alloc, password)?,
+    })
+}
+
 /// The user that a text writes.
 fn user_of(alloc: Global, text: &str) -> Result<User, EndpointsFault>
     ensures { IfOk result (IsUser text.now) }
 {
-    match cut(text, ':') {
-        Some((name, password)) if !name.is_empty() && !password.is_empty() => Ok(User {
-            name: String::from_str(alloc, name)?,
-            password: String::from_str(alloc, password)?,
-        }),
-        _ => Err(EndpointsFault::User),
+    match name_and_password(text) {
+        Some((name, password)) => Ok(user_by(alloc, name, password)?),
+        None => Err(EndpointsFault::User),
     }
 }
 

@@ -3,7 +3,7 @@ ghost use Rattle.std.specs.Prelude.{◌≡◌, IfOk, OnOk};
 ghost use Rattle.serde_json.specs.Data.{object, member, no_members, put as with_member};
 ghost use Rattle.serde_json.specs.View.{view, members_view};
 ghost use Rattle.iso_etcd.specs.Leaves.{leaf_data, with_leaves};
-ghost use Rattle.iso_etcd.specs.Questions.{one};
+ghost use Rattle.iso_etcd.specs.Questions.{base64, one};
 
 use base64::engine::general_purpose::STANDARD;
 use serde_json::{Map, Value, push, put};
@@ -20,13 +20,20 @@ pub enum Leaf<'l> {
     Number(u64),
 }
 
+/// The JSON of bytes.
+fn bytes_value(alloc: Global, bytes: &[u8]) -> Result<Value, AllocError>
+    ensures { IfOk result (λ v. view v ≡ base64 bytes.now) }
+{
+    Ok(Value::String(STANDARD.encode(alloc, bytes)?))
+}
+
 /// The JSON of a leaf.
 fn leaf_value(alloc: Global, leaf: &Leaf<'_>) -> Result<Value, AllocError>
     ensures { IfOk result (λ v. view v ≡ leaf_data leaf.now) }
 {
     match leaf {
         Leaf::Text(text) => Value::try_from_str(alloc, *text),
-        Leaf::Bytes(bytes) => Ok(Value::String(STANDARD.encode(alloc, *bytes)?)),
+        Leaf::Bytes(bytes) => bytes_value(alloc, *bytes),
         Leaf::Number(number) => Ok(Value::from(*number)),
     }
 }

@@ -24,7 +24,7 @@ const READ_SIZE: usize = 65_536;
 const MOST_FIELDS: usize = 64;
 
 /// Why a response didn't come. The request may have arrived.
-#[derive(Clone, Copy, Debug, PartialEq, Eq, Drop)]
+#[derive(Drop)]
 enum Broken {
     /// The connection was lost, it took too long, or what came is no response.
     Lost,

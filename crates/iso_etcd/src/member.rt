@@ -6,6 +6,7 @@ ghost use Rattle.std.specs.Net.Grammar.{IsIpv6Text};
 ghost use Rattle.iso_etcd.specs.Members.{is_host_byte, is_host, leads, IsPort, IsPortBehind, IsNamed, IsBracketed, IsHostAndPort, IsMember};
 
 use crate::cut::cut;
+use crate::name::is_from_to;
 use std::alloc::{AllocError, Global};
 use std::net::Ipv6Addr;
 
@@ -27,7 +28,12 @@ pub struct Member {
 fn is_host_byte(byte: u8) -> bool
     ensures { result ≡ is_host_byte byte }
 {
-    matches!(byte, b'0'..=b'9' | b'A'..=b'Z' | b'a'..=b'z' | b'-' | b'.' | b'_')
+    is_from_to(b'0', b'9', byte)
+        || is_from_to(b'A', b'Z', byte)
+        || is_from_to(b'a', b'z', byte)
+        || byte == b'-'
+        || byte == b'.'
+        || byte == b'_'
 }
 
 /// Whether all bytes may be in the name of a host.

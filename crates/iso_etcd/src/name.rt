@@ -16,7 +16,7 @@ pub struct Name {
 }
 
 /// Whether a byte is one of those from one to another.
-fn is_from_to(least: u8, most: u8, byte: u8) -> bool
+pub(crate) fn is_from_to(least: u8, most: u8, byte: u8) -> bool
     ensures { result ≡ is_from_to least most byte }
 {
     least <= byte && byte <= most

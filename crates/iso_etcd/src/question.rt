@@ -1,7 +1,7 @@
 //! What is asked of etcd, as JSON.
-ghost use Rattle.std.specs.Prelude.{◌≡◌, OnOk, Some, IfOk, codes, string_bytes};
-ghost use Rattle.serde_json.specs.Data.{Data, member, no_members, put as with_member};
-ghost use Rattle.serde_json.specs.Read.{read};
+ghost use Rattle.std.specs.Prelude.{◌≡◌, ◌≤◌, OnOk, Some, IfOk, codes, string_bytes};
+ghost use Rattle.serde_json.specs.Data.{Data, object, depth, member, no_members, put as with_member};
+ghost use Rattle.serde_json.specs.Read.{read, max_depth};
 ghost use Rattle.serde_json.specs.View.{view, members_view};
 ghost use Rattle.iso_etcd.specs.Leaves.{with_leaves};
 ghost use Rattle.iso_etcd.specs.Questions.{base64, one, is_free, told_of, transaction, put_of, put_data, put_leased_data, range_data, look_data, login_data, grant_data, lease_data};
@@ -65,6 +65,34 @@ fn transaction_value(alloc: Global, key: &[u8], put: Value) -> Result<Value, All
     Ok(Value::Object(members))
 }
 
+/// The text of a value.
+fn text_of(alloc: Global, value: &Value) -> Result<String, AllocError>
+    ensures { depth (view value.now) ≤ max_depth
+        → IfOk result (λ text. read (string_bytes text) ≡ Some (view value.now)) }
+{
+    value.to_string(alloc)
+}
+
+/// The text of the object of leaves.
+fn leaves_text(alloc: Global, leaves: &[(&str, Leaf<'_>)]) -> Result<String, AllocError>
+    ensures { depth (object (with_leaves leaves.now no_members)) ≤ max_depth
+        → IfOk result (λ text. read (string_bytes text)
+        ≡ Some (object (with_leaves leaves.now no_members))) }
+{
+    let value = object_of(alloc, leaves)?;
+    text_of(alloc, &value)
+}
+
+/// The text of the transaction that puts that at a key.
+fn transaction_text(alloc: Global, key: &[u8], put: Value) -> Result<String, AllocError>
+    ensures { depth (transaction (base64 key.now) (view put)) ≤ max_depth
+        → IfOk result (λ text. read (string_bytes text)
+        ≡ Some (transaction (base64 key.now) (view put))) }
+{
+    let value = transaction_value(alloc, key, put)?;
+    text_of(alloc, &value)
+}
+
 /// Asks to put a value at a key where nothing stands, and else to tell what stands there.
 pub fn put_text(alloc: Global, key: &[u8], value: &[u8]) -> Result<String, AllocError>
     // Read as JSON, the text is exactly the transaction that puts the value at the key where
@@ -72,7 +100,7 @@ pub fn put_text(alloc: Global, key: &[u8], value: &[u8]) -> Result<String, Alloc
     ensures { IfOk result (λ text. read (string_bytes text) ≡ Some (put_data key.now value.now)) }
 {
     let put = put_value(alloc, &[("key", Bytes(key)), ("value", Bytes(value))])?;
-    transaction_value(alloc, key, put)?.to_string(alloc)
+    transaction_text(alloc, key, put)
 }
 
 /// The same, for a value that stays for as long as a lease.
@@ -95,7 +123,7 @@ pub fn put_leased_text<'b>(
             ("value", Bytes(value)),
         ],
     )?;
-    transaction_value(alloc, key, put)?.to_string(alloc)
+    transaction_text(alloc, key, put)
 }
 
 /// Asks for the values at the keys from one on, before another one, at most so many.
@@ -110,15 +138,14 @@ pub fn range_text<'b>(
     ensures { IfOk result
         (λ text. read (string_bytes text) ≡ Some (range_data first.now end.now limit)) }
 {
-    let range = object_of(
+    leaves_text(
         alloc,
         &[
             ("key", Bytes(first)),
             ("limit", Number(limit as u64)),
             ("range_end", Bytes(end)),
         ],
-    )?;
-    range.to_string(alloc)
+    )
 }
 
 /// Asks for the value at a key.
@@ -126,7 +153,7 @@ pub fn look_text(alloc: Global, key: &[u8]) -> Result<String, AllocError>
     // Read as JSON, the text is exactly the request for this key, in base64, memory aside.
     ensures { IfOk result (λ text. read (string_bytes text) ≡ Some (look_data key.now)) }
 {
-    object_of(alloc, &[("key", Bytes(key))])?.to_string(alloc)
+    leaves_text(alloc, &[("key", Bytes(key))])
 }
 
 /// Asks for a token.
@@ -135,7 +162,7 @@ pub fn login_text(alloc: Global, user: &str, password: &str) -> Result<String, A
     ensures { IfOk result
         (λ text. read (string_bytes text) ≡ Some (login_data user.now password.now)) }
 {
-    object_of(alloc, &[("name", Text(user)), ("password", Text(password))])?.to_string(alloc)
+    leaves_text(alloc, &[("name", Text(user)), ("password", Text(password))])
 }
 
 /// Asks for a lease of so many seconds.
@@ -143,7 +170,7 @@ pub fn grant_text(alloc: Global, seconds: u32) -> Result<String, AllocError>
     // Read as JSON, the text is exactly the number of seconds, as `TTL`, memory aside.
     ensures { IfOk result (λ text. read (string_bytes text) ≡ Some (grant_data seconds)) }
 {
-    object_of(alloc, &[("TTL", Number(seconds as u64))])?.to_string(alloc)
+    leaves_text(alloc, &[("TTL", Number(seconds as u64))])
 }
 
 /// Asks to keep a lease, or to end it.
@@ -151,5 +178,5 @@ pub fn lease_text(alloc: Global, lease: u64) -> Result<String, AllocError>
     // Read as JSON, the text is exactly the number of the lease, as `ID`, memory aside.
     ensures { IfOk result (λ text. read (string_bytes text) ≡ Some (lease_data lease)) }
 {
-    object_of(alloc, &[("ID", Number(lease))])?.to_string(alloc)
+    leaves_text(alloc, &[("ID", Number(lease))])
 }

@@ -1,6 +1,5 @@
 -- Who is active stands at the name with `/active` behind it.
-use Rattle.std.proofs.Common.{rules}
 use Rattle.iso_etcd.proofs.key.active_key.Goals as goal
 
 pub returns : goal.returns
-returns c = search rules
+returns c = c.key_of.ensures

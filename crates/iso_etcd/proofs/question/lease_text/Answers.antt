@@ -1,0 +1,6 @@
+-- The text is the JSON of the lease's number.
+use Rattle.std.proofs.Common.{arith}
+use Rattle.iso_etcd.proofs.question.lease_text.Goals as goal
+
+pub returns : goal.returns
+returns c = c.leaves_text.ensures (omega arith)
