@@ -1,11 +1,12 @@
 //! What etcd's answers tell: bodies as etcd 3.4.23 sends them, and others.
 
 use iso_etcd::{
-    Append, Cause, Loss, Name, PutAnswer, Response, append_of, is_token_refused, login_of,
-    read_kept, read_lease, read_page, read_put, read_token, read_value,
+    Append, Cause, Doubt, Loss, Name, Page, PutAnswer, Response, append_of, is_token_refused,
+    login_of, read_kept, read_lease, read_page, read_put, read_token, read_value,
 };
 use iso_fakes::check;
-use std::alloc::Global;
+use std::alloc::{AllocError, Global};
+use std::fmt::Debug;
 use std::test::Fail;
 
 const KEY: &[u8] = b"day/batch/0000000001";
@@ -41,7 +42,7 @@ const WRONG_PASSWORD: &str =
     "{\"error\":\"etcdserver: authentication failed, invalid user ID or password\",\"message\":\"etcdserver: authentication failed, invalid user ID or password\",\"code\":3}";
 
 /// Whether a value is shown so.
-fn is_shown(alloc: Global, value: &[u8], wanted: &str) -> bool {
+pub fn is_shown(alloc: Global, value: &impl Debug, wanted: &str) -> bool {
     match format!(in alloc; "{value:?}") {
         Ok(shown) => shown.as_str() == wanted,
         Err(_) => false,
@@ -49,8 +50,8 @@ fn is_shown(alloc: Global, value: &[u8], wanted: &str) -> bool {
 }
 
 /// Whether a body tells this of a value that was to be put.
-fn tells(alloc: Global, body: &str, wanted: &str) -> bool {
-    match read_put(alloc, KEY, body.as_bytes()) {
+fn tells(alloc: Global, body: &[u8], wanted: &str) -> bool {
+    match read_put(alloc, KEY, body) {
         Ok(Some(PutAnswer::Put)) => wanted == "put",
         Ok(Some(PutAnswer::Stands(value))) => is_shown(alloc, &value, wanted),
         Ok(None) => wanted == "nothing",
@@ -58,37 +59,52 @@ fn tells(alloc: Global, body: &str, wanted: &str) -> bool {
     }
 }
 
+/// Answers to transactions: a name, the body, and what it tells.
+const ANSWERS: &[(&str, &str, &str)] = &[
+    ("put", PUT, "put"),
+    ("stands", STANDS, "[111, 110, 101]"),
+    ("an empty value is left out", EMPTY, "[]"),
+    ("succeeded is left out", "{}", "nothing"),
+    ("succeeded is false", "{\"succeeded\":false}", "nothing"),
+    ("succeeded is a text", "{\"succeeded\":\"true\"}", "nothing"),
+    ("nothing stands, and nothing was put", NOTHING, "nothing"),
+    ("another key", ANOTHER_KEY, "nothing"),
+    ("bad base64", BAD_BASE64, "nothing"),
+    ("cut", "{\"succeeded\":true", "nothing"),
+    ("no JSON", "Not Found\n", "nothing"),
+    ("empty", "", "nothing"),
+    ("a list", "[true]", "nothing"),
+];
+
 #[test]
 fn answers_to_transactions(rt: HostRuntime) -> Result<(), Fail> {
-    let alloc = rt.alloc();
-    for (name, body, wanted) in [
-        ("put", PUT, "put"),
-        ("stands", STANDS, "[111, 110, 101]"),
-        ("an empty value is left out", EMPTY, "[]"),
-        ("succeeded is left out", "{}", "nothing"),
-        ("succeeded is false", "{\"succeeded\":false}", "nothing"),
-        ("succeeded is a text", "{\"succeeded\":\"true\"}", "nothing"),
-        ("nothing stands, and nothing was put", NOTHING, "nothing"),
-        ("another key", ANOTHER_KEY, "nothing"),
-        ("bad base64", BAD_BASE64, "nothing"),
-        ("cut", "{\"succeeded\":true", "nothing"),
-        ("no JSON", "Not Found\n", "nothing"),
-        ("empty", "", "nothing"),
-        ("a list", "[true]", "nothing"),
-    ] {
-        check(tells(alloc, body, wanted), name)?;
+    for (name, body, wanted) in ANSWERS {
+        check(tells(rt.alloc(), body.as_bytes(), wanted), name)?;
     }
     check(
-        read_put(alloc, KEY, b"{\"succeeded\":true,\"a\":\"\xff\"}")?.is_none(),
+        tells(
+            rt.alloc(),
+            b"{\"succeeded\":true,\"a\":\"\xff\"}",
+            "nothing",
+        ),
         "no text",
     )
 }
 
-/// What an append came to, as it is shown.
-fn judged(alloc: Global, status: u16, body: &str) -> Result<String, Fail> {
-    let body = Vec::from_slice(alloc, body.as_bytes())?;
-    let append = append_of(alloc, KEY, b"one", Ok(Response { status, body }));
-    Ok(format!(in alloc; "{append:?}")?)
+/// A response.
+fn response(alloc: Global, status: u16, body: &str) -> Option<Response> {
+    match Vec::from_slice(alloc, body.as_bytes()) {
+        Ok(body) => Some(Response { status, body }),
+        Err(_) => None,
+    }
+}
+
+/// Whether an append whose response is this comes to that.
+fn comes_to(alloc: Global, status: u16, body: &str, wanted: &str) -> bool {
+    match response(alloc, status, body) {
+        Some(response) => is_shown(alloc, &append_of(alloc, KEY, b"one", Ok(response)), wanted),
+        None => false,
+    }
 }
 
 /// Answers to an append: a name, the status, the body, and what the append came to.
@@ -119,41 +135,56 @@ const APPENDS: &[(&str, u16, &str, &str)] = &[
 #[test]
 fn appends(rt: HostRuntime) -> Result<(), Fail> {
     for (name, status, body, wanted) in APPENDS {
-        check(judged(rt.alloc(), *status, body)?.as_str() == *wanted, name)?;
+        check(comes_to(rt.alloc(), *status, body, wanted), name)?;
     }
     Ok(())
+}
+
+/// Losses: what an append comes to, and what it comes to after one in doubt.
+const LOSSES: &[(Loss, &str, &str)] = &[
+    (Loss::Lost, "Unknown(Lost)", "Unknown(Lost)"),
+    (Loss::Memory, "Unknown(Memory)", "Unknown(Memory)"),
+    (
+        Loss::Unsent(Cause::Away),
+        "Unsent(Away)",
+        "Unknown(NoSpace)",
+    ),
+];
+
+/// What an append comes to without a response.
+fn lost(alloc: Global, loss: Loss) -> Append {
+    append_of(alloc, KEY, b"one", Err(loss))
+}
+
+/// What it comes to after an append in doubt.
+fn lost_again(alloc: Global, loss: Loss) -> Append {
+    Append::Unknown(Doubt::NoSpace).then(lost(alloc, loss))
 }
 
 #[test]
 fn appends_without_a_response(rt: HostRuntime) -> Result<(), Fail> {
     let alloc = rt.alloc();
-    for (loss, wanted) in [
-        (Loss::Lost, "Unknown(Lost)"),
-        (Loss::Memory, "Unknown(Memory)"),
-        (Loss::Unsent(Cause::Away), "Unsent(Away)"),
-    ] {
-        let append = append_of(alloc, KEY, b"one", Err(loss));
-        let shown = format!(in alloc; "{append:?}")?;
-        check(shown.as_str() == wanted, wanted)?;
-        let shown = format!(in alloc;
-            "{:?}",
-            Append::Unknown(iso_etcd::Doubt::NoSpace).then(append)
-        )?;
-        let still = match loss {
-            Loss::Unsent(_) => "Unknown(NoSpace)",
-            _ => wanted,
-        };
-        check(shown.as_str() == still, still)?;
+    for (loss, wanted, still) in LOSSES {
+        check(is_shown(alloc, &lost(alloc, *loss), wanted), wanted)?;
+        check(is_shown(alloc, &lost_again(alloc, *loss), still), still)?;
     }
     Ok(())
 }
 
-/// A page, as it is shown: its batches, and whether there is more.
-fn page(alloc: Global, first: u32, body: &str) -> Result<String, Fail> {
-    let name = Name::from_text(alloc, "day")?.ok_or("no name")?;
-    match read_page(alloc, &name, first, body.as_bytes())? {
-        Some(page) => Ok(format!(in alloc; "{:?} {}", page.batches, page.more)?),
-        None => Ok(String::from_str(alloc, "none")?),
+/// Whether a page is shown so: its batches, and whether there is more.
+fn is_page(alloc: Global, page: &Page, wanted: &str) -> bool {
+    match format!(in alloc; "{:?} {}", page.batches, page.more) {
+        Ok(shown) => shown.as_str() == wanted,
+        Err(_) => false,
+    }
+}
+
+/// Whether a body is such a page of a journal.
+fn reads_page(alloc: Global, name: &Name, first: u32, body: &str, wanted: &str) -> bool {
+    match read_page(alloc, name, first, body.as_bytes()) {
+        Ok(Some(page)) => is_page(alloc, &page, wanted),
+        Ok(None) => wanted == "none",
+        Err(_) => false,
     }
 }
 
@@ -166,99 +197,144 @@ const TWO: &str =
 const GAP: &str =
     "{\"kvs\":[{\"key\":\"ZGF5L2JhdGNoLzAwMDAwMDAwMDE=\",\"value\":\"b25l\"},{\"key\":\"ZGF5L2JhdGNoLzAwMDAwMDAwMDM=\"}],\"count\":\"2\"}";
 
-#[test]
-fn pages(rt: HostRuntime) -> Result<(), Fail> {
-    let alloc = rt.alloc();
-    for (name, first, body, wanted) in [
-        ("one of two", 1, ONE, "[[111, 110, 101]] true"),
-        ("two", 1, TWO, "[[111, 110, 101], []] false"),
-        (
-            "nothing",
-            1,
-            "{\"header\":{\"revision\":\"2\"}}",
-            "[] false",
-        ),
-        ("one is missing", 1, GAP, "none"),
-        ("other places", 2, TWO, "none"),
-        (
-            "behind the last place",
-            u32::MAX,
-            "{\"kvs\":[{\"key\":\"ZGF5L2JhdGNoLzQyOTQ5NjcyOTU=\"}]}",
-            "[[]] false",
-        ),
-        ("no list", 1, "{\"kvs\":{}}", "none"),
-        ("no JSON", 1, "{\"kvs\":[", "none"),
-    ] {
-        check(page(alloc, first, body)?.as_str() == wanted, name)?;
+/// Pages: a name, the first place, the body, and the page that it is.
+const PAGES: &[(&str, u32, &str, &str)] = &[
+    ("one of two", 1, ONE, "[[111, 110, 101]] true"),
+    ("two", 1, TWO, "[[111, 110, 101], []] false"),
+    (
+        "nothing",
+        1,
+        "{\"header\":{\"revision\":\"2\"}}",
+        "[] false",
+    ),
+    ("one is missing", 1, GAP, "none"),
+    ("other places", 2, TWO, "none"),
+    (
+        "behind the last place",
+        u32::MAX,
+        "{\"kvs\":[{\"key\":\"ZGF5L2JhdGNoLzQyOTQ5NjcyOTU=\"}]}",
+        "[[]] false",
+    ),
+    ("no list", 1, "{\"kvs\":{}}", "none"),
+    ("no JSON", 1, "{\"kvs\":[", "none"),
+];
+
+/// Checks the pages of a journal.
+fn check_pages(alloc: Global, journal: &Name) -> Result<(), Fail> {
+    for (name, first, body, wanted) in PAGES {
+        check(reads_page(alloc, journal, *first, body, wanted), name)?;
     }
     Ok(())
 }
 
-/// What stands at the key, as it is shown.
-fn value(alloc: Global, body: &str) -> Result<String, Fail> {
-    Ok(format!(in alloc; "{:?}", read_value(alloc, KEY, body.as_bytes())?)?)
+#[test]
+fn pages(rt: HostRuntime) -> Result<(), Fail> {
+    let journal = Name::from_text(rt.alloc(), "day")?.ok_or("no name")?;
+    check_pages(rt.alloc(), &journal)
 }
+
+/// Whether a body tells that this stands at the key.
+fn reads_value(alloc: Global, body: &str, wanted: &str) -> bool {
+    match read_value(alloc, KEY, body.as_bytes()) {
+        Ok(value) => is_shown(alloc, &value, wanted),
+        Err(_) => false,
+    }
+}
+
+/// Values: a name, the body, and what stands at the key.
+const VALUES: &[(&str, &str, &str)] = &[
+    ("a value", ONE, "Some(Some([111, 110, 101]))"),
+    ("nothing", "{\"header\":{\"revision\":\"5\"}}", "Some(None)"),
+    (
+        "another key",
+        "{\"kvs\":[{\"key\":\"ZGF5L2FjdGl2ZQ==\",\"value\":\"bWU=\"}]}",
+        "None",
+    ),
+    ("no JSON", "", "None"),
+];
 
 #[test]
 fn values(rt: HostRuntime) -> Result<(), Fail> {
-    let alloc = rt.alloc();
-    for (name, body, wanted) in [
-        ("a value", ONE, "Some(Some([111, 110, 101]))"),
-        ("nothing", "{\"header\":{\"revision\":\"5\"}}", "Some(None)"),
-        (
-            "another key",
-            "{\"kvs\":[{\"key\":\"ZGF5L2FjdGl2ZQ==\",\"value\":\"bWU=\"}]}",
-            "None",
-        ),
-        ("no JSON", "", "None"),
-    ] {
-        check(value(alloc, body)?.as_str() == wanted, name)?;
+    for (name, body, wanted) in VALUES {
+        check(reads_value(rt.alloc(), body, wanted), name)?;
     }
     Ok(())
 }
+
+/// Whether a number was read, and is this, or wasn't.
+fn is_number(read: Result<Option<u64>, AllocError>, wanted: Option<u64>) -> bool {
+    match (read, wanted) {
+        (Ok(Some(number)), Some(wanted)) => number == wanted,
+        (Ok(None), None) => true,
+        _ => false,
+    }
+}
+
+const GRANTED: &[u8] =
+    b"{\"header\":{\"revision\":\"3\"},\"ID\":\"4111120305292484110\",\"TTL\":\"10\"}";
+
+const KEPT: &[u8] =
+    b"{\"result\":{\"header\":{\"revision\":\"3\"},\"ID\":\"4111120305292484110\",\"TTL\":\"10\"}}\n";
+
+const GONE: &[u8] = b"{\"result\":{\"header\":{\"revision\":\"3\"},\"ID\":\"12345\"}}\n";
 
 #[test]
 fn leases(rt: HostRuntime) -> Result<(), Fail> {
     let alloc = rt.alloc();
-    let granted =
-        b"{\"header\":{\"revision\":\"3\"},\"ID\":\"4111120305292484110\",\"TTL\":\"10\"}";
+    let granted = read_lease(alloc, GRANTED);
     check(
-        read_lease(alloc, granted)? == Some(4_111_120_305_292_484_110),
+        is_number(granted, Some(4_111_120_305_292_484_110)),
         "granted",
     )?;
-    check(read_lease(alloc, b"{\"ID\":7}")?.is_none(), "a number")?;
-    let kept =
-        b"{\"result\":{\"header\":{\"revision\":\"3\"},\"ID\":\"4111120305292484110\",\"TTL\":\"10\"}}\n";
-    check(read_kept(alloc, kept)? == Some(10), "kept")?;
-    let gone = b"{\"result\":{\"header\":{\"revision\":\"3\"},\"ID\":\"12345\"}}\n";
-    check(read_kept(alloc, gone)?.is_none(), "gone")
+    let number = read_lease(alloc, b"{\"ID\":7}");
+    check(is_number(number, None), "a number")?;
+    check(is_number(read_kept(alloc, KEPT), Some(10)), "kept")?;
+    check(is_number(read_kept(alloc, GONE), None), "gone")
 }
 
-/// What a login came to, as it is shown.
-fn login(alloc: Global, status: u16, body: &str) -> Result<String, Fail> {
-    let body = Vec::from_slice(alloc, body.as_bytes())?;
-    let login = login_of(alloc, Ok(Response { status, body }));
-    Ok(format!(in alloc; "{login:?}")?)
+/// Whether a login whose response is this comes to that.
+fn logs_in(alloc: Global, status: u16, body: &str, wanted: &str) -> bool {
+    match response(alloc, status, body) {
+        Some(response) => is_shown(alloc, &login_of(alloc, Ok(response)), wanted),
+        None => false,
+    }
 }
+
+const TOKEN: &str = "{\"header\":{\"revision\":\"1\"},\"token\":\"BvugrxbeKddkbLDr.16\"}";
+
+/// Logins: a name, the status, the body, and what the login comes to.
+const LOGINS: &[(&str, u16, &str, &str)] = &[
+    ("a token", 200, TOKEN, "Ok(\"BvugrxbeKddkbLDr.16\")"),
+    ("no token", 200, "{}", "Err(NotLetIn)"),
+    ("wrong password", 400, WRONG_PASSWORD, "Err(NotLetIn)"),
+    ("no users", 412, "{}", "Err(NotLetIn)"),
+    ("no leader", 503, "{}", "Err(Away)"),
+];
 
 #[test]
 fn logins(rt: HostRuntime) -> Result<(), Fail> {
-    let alloc = rt.alloc();
-    let token = "{\"header\":{\"revision\":\"1\"},\"token\":\"BvugrxbeKddkbLDr.16\"}";
-    check(read_token(alloc, token.as_bytes())?.is_some(), "token")?;
-    for (name, status, body, wanted) in [
-        ("a token", 200, token, "Ok(\"BvugrxbeKddkbLDr.16\")"),
-        ("no token", 200, "{}", "Err(NotLetIn)"),
-        ("wrong password", 400, WRONG_PASSWORD, "Err(NotLetIn)"),
-        ("no users", 412, "{}", "Err(NotLetIn)"),
-        ("no leader", 503, "{}", "Err(Away)"),
-    ] {
-        check(login(alloc, status, body)?.as_str() == wanted, name)?;
+    for (name, status, body, wanted) in LOGINS {
+        check(logs_in(rt.alloc(), *status, body, wanted), name)?;
     }
-    let body = Vec::from_slice(alloc, BAD_TOKEN.as_bytes())?;
-    check(
-        is_token_refused(&Ok(Response { status: 401, body })),
-        "refused",
-    )?;
+    Ok(())
+}
+
+/// Whether a body tells a token.
+fn has_token(alloc: Global, body: &str) -> bool {
+    matches!(read_token(alloc, body.as_bytes()), Ok(Some(_)))
+}
+
+/// Whether a response with the status 401 says that the token isn't taken.
+fn refuses_token(alloc: Global) -> bool {
+    match response(alloc, 401, BAD_TOKEN) {
+        Some(response) => is_token_refused(&Ok(response)),
+        None => false,
+    }
+}
+
+#[test]
+fn tokens(rt: HostRuntime) -> Result<(), Fail> {
+    check(has_token(rt.alloc(), TOKEN), "token")?;
+    check(refuses_token(rt.alloc()), "refused")?;
     check(!is_token_refused(&Err(Loss::Lost)), "lost")
 }

@@ -1,11 +1,10 @@
 //! Members that are asked.
 
-use crate::fakes::{Behaviour, FakeMembers};
-use iso_etcd::{Append, Cluster, Endpoints, MOST_BATCH, Waits};
+use crate::answers::is_shown;
+use crate::fakes::{Behaviour, Counts, FakeMembers};
+use iso_etcd::{Cluster, Endpoints, MOST_BATCH, Waits};
 use iso_fakes::check;
-use std::alloc::{AllocError, Global};
-use std::cell::Cell;
-use std::rc::Rc;
+use std::alloc::Global;
 use std::test::Fail;
 
 const WAITS: Waits = Waits {
@@ -14,37 +13,24 @@ const WAITS: Waits = Waits {
     whole: 2_000,
 };
 
-/// Members that do this.
-fn members_of(alloc: Global, behaviours: &[Behaviour]) -> Result<FakeMembers, AllocError> {
-    Ok(FakeMembers {
-        alloc,
-        behaviours: behaviours.to_vec(alloc)?,
-        clock: Rc::new(alloc, Cell::new(0))?,
-        logins: Rc::new(alloc, Cell::new(0))?,
-    })
-}
-
-/// A cluster of members that words name, and that do this.
-fn cluster_of(alloc: Global, text: &str, behaviours: &[Behaviour]) -> Option<Cluster<FakeMembers>> {
-    let Ok(endpoints) = Endpoints::from_text(alloc, text) else {
-        return None;
-    };
-    match members_of(alloc, behaviours) {
-        Ok(members) => Some(Cluster::new(alloc, members, endpoints, WAITS)),
+/// A cluster of members that words name.
+fn cluster_of<'m>(
+    alloc: Global,
+    text: &str,
+    members: FakeMembers<'m>,
+) -> Option<Cluster<FakeMembers<'m>>> {
+    match Endpoints::from_text(alloc, text) {
+        Ok(endpoints) => Some(Cluster::new(alloc, members, endpoints, WAITS)),
         Err(_) => None,
     }
 }
 
-/// Whether an append came to this, as it is shown.
-fn is_shown(alloc: Global, append: &Append, wanted: &str) -> bool {
-    match format!(in alloc; "{append:?}") {
-        Ok(shown) => shown.as_str() == wanted,
-        Err(_) => false,
-    }
-}
-
 /// Whether appends at these places come to these, one after the other.
-fn all_come_to(alloc: Global, cluster: &mut Cluster<FakeMembers>, appends: &[(u32, &str)]) -> bool {
+fn all_come_to(
+    alloc: Global,
+    cluster: &mut Cluster<FakeMembers<'_>>,
+    appends: &[(u32, &str)],
+) -> bool {
     let mut all = true;
     for (place, wanted) in appends {
         let append = cluster.append_once(*place, b"one");
@@ -55,6 +41,8 @@ fn all_come_to(alloc: Global, cluster: &mut Cluster<FakeMembers>, appends: &[(u3
 
 /// Whether it is so at a cluster of members that do this.
 fn come_to(alloc: Global, text: &str, members: &[Behaviour], appends: &[(u32, &str)]) -> bool {
+    let counts = Counts::new();
+    let members = FakeMembers::new(alloc, members, &counts);
     match cluster_of(alloc, text, members) {
         Some(mut cluster) => all_come_to(alloc, &mut cluster, appends),
         None => false,
@@ -167,7 +155,7 @@ fn an_answer_that_is_cut(rt: HostRuntime) -> Result<(), Fail> {
 }
 
 /// Whether nothing is sent of what is too long.
-fn is_too_long(alloc: Global, cluster: &mut Cluster<FakeMembers>) -> bool {
+fn is_too_long(alloc: Global, cluster: &mut Cluster<FakeMembers<'_>>) -> bool {
     match vec![in alloc; b'x'; MOST_BATCH + 1] {
         Ok(long) => is_shown(
             alloc,
@@ -180,7 +168,9 @@ fn is_too_long(alloc: Global, cluster: &mut Cluster<FakeMembers>) -> bool {
 
 /// Whether it is so at members that put values.
 fn refuses_what_is_too_long(alloc: Global) -> bool {
-    match cluster_of(alloc, TWO, &[Behaviour::Puts, Behaviour::Puts]) {
+    let counts = Counts::new();
+    let members = FakeMembers::new(alloc, &[Behaviour::Puts, Behaviour::Puts], &counts);
+    match cluster_of(alloc, TWO, members) {
         Some(mut cluster) => is_too_long(alloc, &mut cluster),
         None => false,
     }
@@ -191,10 +181,22 @@ fn what_is_too_long(rt: HostRuntime) -> Result<(), Fail> {
     check(refuses_what_is_too_long(rt.alloc()), "too long")
 }
 
-/// Whether an append that is tried so often comes to this.
+/// Whether an append to a cluster that is tried so often comes to this.
+fn tried_comes_to(
+    alloc: Global,
+    cluster: &mut Cluster<FakeMembers<'_>>,
+    tries: u32,
+    wanted: &str,
+) -> bool {
+    is_shown(alloc, &cluster.append(1, b"one", tries), wanted)
+}
+
+/// Whether it is so at members that do this.
 fn comes_to(alloc: Global, members: &[Behaviour], tries: u32, wanted: &str) -> bool {
+    let counts = Counts::new();
+    let members = FakeMembers::new(alloc, members, &counts);
     match cluster_of(alloc, TWO, members) {
-        Some(mut cluster) => is_shown(alloc, &cluster.append(1, b"one", tries), wanted),
+        Some(mut cluster) => tried_comes_to(alloc, &mut cluster, tries, wanted),
         None => false,
     }
 }

@@ -7,7 +7,7 @@ use std::io;
 use std::io::{Read, Write};
 
 /// What a member does with a request.
-#[derive(Clone, Copy, PartialEq, Eq)]
+#[derive(Clone, Copy)]
 pub enum Behaviour {
     /// It takes no connection.
     Refuses,
@@ -41,21 +41,42 @@ const FIRST_TOKEN: &[u8] = b"HTTP/1.1 200 OK\r\nContent-Length: 15\r\n\r\n{\"tok
 
 const SECOND_TOKEN: &[u8] = b"HTTP/1.1 200 OK\r\nContent-Length: 15\r\n\r\n{\"token\":\"two\"}";
 
-/// The members, by what each does, and a clock.
+/// What the members count: the milliseconds of a clock, and the tokens that they gave.
 #[derive(Drop)]
-pub struct FakeMembers {
-    pub alloc: Global,
-    pub behaviours: Vec<Behaviour>,
-    pub clock: std::rc::Rc<Cell<u64>>,
-    pub logins: std::rc::Rc<Cell<u32>>,
+pub struct Counts {
+    clock: Cell<u64>,
+    logins: Cell<u32>,
+}
+
+impl Counts {
+    /// None yet.
+    pub fn new() -> Counts {
+        Counts {
+            clock: Cell::new(0),
+            logins: Cell::new(0),
+        }
+    }
+
+    /// Lets some milliseconds pass.
+    fn pass(&self, milliseconds: u64) {
+        self.clock
+            .set(self.clock.get().saturating_add(milliseconds));
+    }
+}
+
+/// The members, by what each does.
+#[derive(Drop)]
+pub struct FakeMembers<'m> {
+    alloc: Global,
+    behaviours: &'m [Behaviour],
+    counts: &'m Counts,
 }
 
 /// A connection to one of them.
 #[derive(Drop)]
-pub struct FakeStream {
+pub struct FakeStream<'m> {
     behaviour: Behaviour,
-    clock: std::rc::Rc<Cell<u64>>,
-    logins: std::rc::Rc<Cell<u32>>,
+    counts: &'m Counts,
     written: Vec<u8>,
     answer: &'static [u8],
 }
@@ -67,7 +88,7 @@ fn has(bytes: &[u8], text: &[u8]) -> bool {
         .any(|window| window == text)
 }
 
-impl FakeStream {
+impl<'m> FakeStream<'m> {
     /// The answer to what was written.
     fn answer(&self) -> &'static [u8] {
         if has(self.written.as_slice(), b"/v3/auth/authenticate") {
@@ -85,23 +106,24 @@ impl FakeStream {
 
     /// The answer to a login.
     fn token(&self) -> &'static [u8] {
-        self.logins.set(self.logins.get().saturating_add(1));
+        let logins = self.counts.logins.get().saturating_add(1);
+        self.counts.logins.set(logins);
         match self.behaviour {
             Behaviour::Denies => DENIED,
-            _ if self.logins.get() > 1 => SECOND_TOKEN,
+            _ if logins > 1 => SECOND_TOKEN,
             _ => FIRST_TOKEN,
         }
     }
 }
 
-impl Read for FakeStream {
+impl<'m> Read for FakeStream<'m> {
     fn read(&mut self, buffer: &mut [u8]) -> io::Result<usize> {
         if !self.written.is_empty() {
             self.answer = self.answer();
             self.written.clear();
         }
-        if self.behaviour == Behaviour::Trickles {
-            self.clock.set(self.clock.get().saturating_add(100));
+        if matches!(self.behaviour, Behaviour::Trickles) {
+            self.counts.pass(100);
         }
         match (self.answer.split_first(), buffer.first_mut()) {
             (Some((byte, rest)), Some(place)) => {
@@ -114,7 +136,7 @@ impl Read for FakeStream {
     }
 }
 
-impl Write for FakeStream {
+impl<'m> Write for FakeStream<'m> {
     fn write(&mut self, bytes: &[u8]) -> io::Result<usize> {
         let some = bytes.get(..7).unwrap_or(bytes);
         self.written.extend_from_slice(some)?;
@@ -126,32 +148,53 @@ impl Write for FakeStream {
     }
 }
 
-impl Timed for FakeStream {
+impl<'m> Timed for FakeStream<'m> {
     fn set_wait(&mut self, _milliseconds: u64) -> bool {
         true
     }
 }
 
-impl Watch for FakeMembers {
+impl<'m> Watch for FakeMembers<'m> {
     fn now(&self) -> Option<u64> {
-        Some(self.clock.get())
+        Some(self.counts.clock.get())
     }
 }
 
-impl Dial for FakeMembers {
-    type Stream = FakeStream;
-
-    fn dial(&self, member: &Member, _milliseconds: u64) -> Option<FakeStream> {
-        let behaviour = *self.behaviours.get((member.port as usize).checked_sub(1)?)?;
-        if behaviour == Behaviour::Refuses {
-            return None;
+impl<'m> FakeMembers<'m> {
+    /// Members that do this.
+    pub fn new(alloc: Global, behaviours: &'m [Behaviour], counts: &'m Counts) -> FakeMembers<'m> {
+        FakeMembers {
+            alloc,
+            behaviours,
+            counts,
         }
-        Some(FakeStream {
+    }
+
+    /// What the member of a port does.
+    fn behaviour(&self, port: u16) -> Option<Behaviour> {
+        self.behaviours
+            .get((port as usize).checked_sub(1)?)
+            .copied()
+    }
+
+    /// A connection to a member that does this.
+    fn stream(&self, behaviour: Behaviour) -> FakeStream<'m> {
+        FakeStream {
             behaviour,
-            clock: self.clock.clone().ok()?,
-            logins: self.logins.clone().ok()?,
+            counts: self.counts,
             written: Vec::new(self.alloc),
             answer: b"",
-        })
+        }
+    }
+}
+
+impl<'m> Dial for FakeMembers<'m> {
+    type Stream = FakeStream<'m>;
+
+    fn dial(&self, member: &Member, _milliseconds: u64) -> Option<FakeStream<'m>> {
+        match self.behaviour(member.port)? {
+            Behaviour::Refuses => None,
+            behaviour => Some(self.stream(behaviour)),
+        }
     }
 }
