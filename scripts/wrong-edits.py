@@ -7,10 +7,11 @@ The gate (`rt ci`) proves the tree FOLDER and prints LOG, at this moment or befo
 that it is proved, or that its proof is kept from an earlier run. With names, only those crates.
 
 The gate itself tries one edit after the other, each by a check of the whole crate, and proves the crate once more for it. Here one
-check tries many edits, each in the body of another function, and looks at these functions alone: whatever else they call is taken to
-meet its contract, since the gate has proved that. An edit is refused where the check doesn't prove the very function that it turns,
-and not because that function calls another one that is turned too: such an edit waits for the next check. What turns more than one
-body is tried alone, over all functions that name what it turns. What isn't refused so is tried as the gate tries it.
+check tries many edits, and looks at the functions that they turn alone: whatever else they call is taken to meet its contract, since
+the gate has proved that. Where several edits turn one function, the first one turns it, and each of the others a copy of it, with the
+same contract and the same proof under another name. An edit is refused where the check doesn't prove the very function that it turns,
+and not because that function calls another one that is turned too: such an edit waits for the next check. What turns more than one body
+is tried alone, over all functions that name what it turns. What isn't refused so is tried alone, and at last as the gate tries it.
 
 The last line is 'N passed, M failed'.
 """
@@ -24,13 +25,13 @@ import sys
 import tempfile
 import threading
 import time
+from collections import Counter
 from concurrent.futures import ThreadPoolExecutor
 from dataclasses import dataclass, field
 from pathlib import Path
 
-FUNCTION = re.compile(r"( *)(?:pub(?:\([^)]*\))? )?(?:const )?(?:unsafe )?(?:extern \"C\" )?fn (\w+)")
-BLOCK = re.compile(r"( *)(?:unsafe )?(?:impl|trait)\b")
-CONSTANT = re.compile(r" *(?:pub(?:\([^)]*\))? )?(?:const|static) (\w+)")
+from functions import ABOVE, CONSTANT, FUNCTION, Function, copied, copy_proof, functions_of, has_own_files, other_path, without_body
+
 # what the check says of a function: the goals of its own that the search leaves, and the proofs that are refused, where it has some
 LEFT = re.compile(r"did not prove ((?:`[^`]*`(?:, | and )?)+)")
 REFUSED = re.compile(r"it stands on ((?:`[^`]*`(?:, | and )?)+),? which antt refuses")
@@ -46,21 +47,6 @@ ROOM = 6_000_000
 
 
 @dataclass
-class Function:
-    """A function of a file: its path, and the lines of its body."""
-
-    path: str
-    file: str
-    name: str
-    first: int
-    body: int
-    last: int
-    text: str
-    in_cycle: bool
-    is_const: bool
-
-
-@dataclass
 class Edit:
     """A wrong edit, and the functions at which it is to be refused: the one whose body it turns, or all that name what it turns."""
 
@@ -68,62 +54,17 @@ class Edit:
     name: str
     pairs: list
     turned: list = field(default_factory=list)
-    is_one_body: bool = False
+    # the one whose body it turns alone
+    body: Function = None
 
 
-def last_line_of(lines, first, indent):
-    """The line that ends what begins at a line."""
-    return next((at for at in range(first + 1, len(lines)) if lines[at] in (f"{indent}}}", f"{indent}}};")), len(lines) - 1)
+@dataclass
+class Turn:
+    """How an edit is tried: at which functions, or at which copy of the one whose body it turns."""
 
-
-def body_of(lines, first, last, indent):
-    """The line with the brace that opens a function's body."""
-    for at in range(first, last + 1):
-        if lines[at] == f"{indent}{{":
-            return at
-    return next((at for at in range(first, last + 1) if lines[at].endswith("{")), last)
-
-
-def owner_of(header):
-    """What an `impl` is for, and its trait, if any."""
-    header = re.sub(r"<[^<>]*>", "", re.sub(r"<[^<>]*<[^<>]*>[^<>]*>", "", header))
-    found = re.match(r" *(?:unsafe )?(?:impl|trait) *([\w:]+)(?: for &?(?:mut )?([\w:]+))?", header)
-    if not found:
-        return None
-    trait, kind = found[1].split("::")[-1], found[2]
-    return (kind.split("::")[-1], trait) if kind else (trait, "")
-
-
-def path_of(names, module, owner, name):
-    """The name by which the check calls a function, where only one fits. A method goes by the module of its type."""
-    fits = [it.split("::") for it in names if it.endswith(f"::{name}") and "::fn::" not in it]
-    if owner:
-        fits = [it for it in fits if len(it) > 2 and (it[-2] == owner[0] if not owner[1] else it[-2].startswith("".join(owner)))]
-    here = [it for it in fits if it[: len(module)] == module and len(it) == len(module) + (2 if owner else 1)]
-    fits = here or (fits if owner else [])
-    return "::".join(fits[0]) if len(fits) == 1 else None
-
-
-def functions_of(crate, folder, names):
-    """The functions of a crate's sources."""
-    found = []
-    for file in sorted((folder / "src").rglob("*.rt")):
-        lines, within = file.read_text().split("\n"), []
-        inside = file.relative_to(folder / "src").with_suffix("").parts
-        module = [crate, *(() if inside in (("lib",), ("main",)) else inside)]
-        for at, line in enumerate(lines):
-            within = [it for it in within if it[0] >= at]
-            if begins := BLOCK.match(line):
-                within.append((last_line_of(lines, at, begins[1]), owner_of(" ".join(lines[at : at + 3]))))
-            elif begins := FUNCTION.match(line):
-                last = last_line_of(lines, at, begins[1])
-                path = path_of(names, module, within[-1][1] if within else None, begins[2])
-                in_cycle = any("#[cycle(" in it for it in lines[max(at - 3, 0) : at])
-                body = body_of(lines, at, last, begins[1])
-                text = "\n".join(lines[at : last + 1])
-                is_const = "const fn" in line
-                found.append(Function(path, str(file.relative_to(folder)), begins[2], at, body, last, text, in_cycle, is_const))
-    return found
+    edit: Edit
+    turned: list
+    number: int = 0
 
 
 def pairs_of(file):
@@ -138,12 +79,19 @@ def pairs_of(file):
     return pairs
 
 
-def turn(file, pairs):
-    """Puts the new texts where the old ones stand in the file as it was."""
+def turn(file, pairs, copies, emptied):
+    """Puts the new texts where the old ones stand in the file as it was, the copies of functions behind these, and empties bodies."""
     text = file.read_text()
-    for old, new in sorted(pairs, key=lambda it: -text.index(it[0])):
-        at = text.index(old)
-        text = text[:at] + new + text[at + len(old) :]
+    lines = text.split("\n")
+    changes = [(text.index(old), len(old), new) for old, new in pairs]
+    for function, number, own in copies:
+        end = len("\n".join(lines[: function.last + 1]))
+        changes.append((end, 0, "\n\n" + copied(lines, function, number, own)))
+    for function in emptied:
+        begin, end = (len("\n".join(lines[:line])) for line in (function.body + 1, function.last))
+        changes.append((begin, end - begin, without_body(lines, function)))
+    for at, size, new in sorted(changes, reverse=True):
+        text = text[:at] + new + text[at + size :]
     file.write_text(text)
 
 
@@ -155,8 +103,10 @@ def place_of(text, old, new):
     return text.count("\n", 0, at + front), text.count("\n", 0, at + max(len(old) - back, front))
 
 
-def name_at(lines, at, functions):
-    """What is turned at a line outside of a body: the constant, or the function, that begins there or above."""
+def name_at(lines, at):
+    """What is turned at a line outside of a body: the constant, or the function, that begins there or above, or below its comments."""
+    while ABOVE.match(lines[at]):
+        at += 1
     for line in range(at, -1, -1):
         if found := CONSTANT.match(lines[line]) or FUNCTION.match(lines[line]):
             return found[found.lastindex]
@@ -172,9 +122,10 @@ def place(edit, folder, functions):
         there = [it for it in functions if it.file == file and it.body < first and last < it.last]
         bodies += there[-1:]
         if not there:
-            wide.append(name_at(text.split("\n"), first, functions))
+            wide.append(name_at(text.split("\n"), first))
     # what a `const fn` gives may stand in a constant that others use
-    edit.is_one_body = not wide and len({it.path for it in bodies}) == 1 and bodies[0].path is not None and not bodies[0].is_const
+    if not wide and len({it.path for it in bodies}) == 1 and bodies[0].path is not None and not bodies[0].is_const:
+        edit.body = bodies[0]
     named = [it for it in functions for name in wide if name and re.search(rf"\b{name}\b", it.text)]
     edit.turned = sorted({it.path for it in bodies + named if it.path})
 
@@ -223,6 +174,7 @@ class Crate:
         self.tree, self.name, self.folder = tree, name, folder
         # where the proof is kept from an earlier run, the gate names no function
         self.names = self.names_in(log) if log else None
+        self.functions = []
         self.room = Path(tempfile.mkdtemp(prefix=f"edits-{name}-"))
         self.checks = 0
 
@@ -256,41 +208,65 @@ class Crate:
         self.functions = functions_of(self.name, self.folder, self.names)
         for it in edits:
             place(it, self.folder, self.functions)
-        told = self.try_together([it for it in edits if it.is_one_body])
+        told = self.try_together([it for it in edits if it.body])
         for it in edits:
             if it.name not in told and it.turned:
-                told |= self.try_some([it])
+                told |= self.try_some([Turn(it, it.turned)])
         return told
 
     def try_together(self, edits):
-        """Tries edits of other bodies in one check, and what waits in the next one."""
-        told = {}
+        """Tries as many edits as can be in one check, and what waits in the next one."""
+        told, with_copies = {}, True
         while waiting := [it for it in edits if it.name not in told]:
-            ones = {it.turned[0]: it for it in reversed(waiting)}
-            more = self.try_some([*ones.values()])
-            if not more:
+            more = self.try_some(self.turns_of(waiting, with_copies))
+            if not more and not with_copies:
                 break
             told |= more
+            with_copies = with_copies and bool(more)
         return told
 
-    def copy(self, edits):
-        shutil.rmtree(self.room / "crate", ignore_errors=True)
+    def turns_of(self, edits, with_copies):
+        """How as many edits as can be are tried in one check: one for each function, and one for each copy of one."""
+        turns, taken = [], Counter()
+        for it in edits:
+            number = taken[it.body.path]
+            if number == 0:
+                turns.append(Turn(it, it.turned))
+            elif with_copies and it.body.can_be_copied and has_own_files(it.body, self.folder):
+                turns.append(Turn(it, [other_path(it.body.path, number)], number))
+            else:
+                continue
+            taken[it.body.path] += 1
+        return turns
+
+    def copy(self, turns, proved=()):
+        """A copy of the crate, in which all that is turned is turned, and functions that are taken as proved have no body."""
+        folder = self.room / "crate"
+        shutil.rmtree(folder, ignore_errors=True)
         for part in PARTS:
             if (self.folder / part).is_dir():
-                shutil.copytree(self.folder / part, self.room / "crate" / part)
-        pairs = [pair for it in edits for pair in it.pairs]
-        for file in {it[0] for it in pairs}:
-            turn(self.room / "crate" / file, [it[1:] for it in pairs if it[0] == file])
-        return self.room / "crate"
+                shutil.copytree(self.folder / part, folder / part)
+        pairs = [pair for it in turns if not it.number for pair in it.edit.pairs]
+        copies = [it for it in turns if it.number]
+        emptied = [it for it in self.functions if it.path in proved and it.can_be_emptied]
+        for name in {it[0] for it in pairs} | {it.edit.body.file for it in copies} | {it.file for it in emptied}:
+            behind = [(it.edit.body, it.number, [pair[1:] for pair in it.edit.pairs]) for it in copies if it.edit.body.file == name]
+            turn(folder / name, [it[1:] for it in pairs if it[0] == name], behind, [it for it in emptied if it.file == name])
+        for it in copies:
+            copy_proof(it.edit.body, it.number, folder)
+        return folder
 
-    def take_as_proved(self, copy, turned):
-        """Leaves out the proofs of all other functions: the gate has proved that they meet their contracts."""
-        cycles = {it.name[1:] for it in (copy / "proofs").rglob("+*")}
+    def others(self, turned):
+        """The functions that are taken as proved, since nothing turns them."""
+        cycles = {it.name[1:] for it in (self.folder / "proofs").rglob("+*")}
         kept = {*turned, *(it.path for it in self.functions if it.in_cycle or it.name in cycles)}
-        proofs = {it: it.read_text() for it in (copy / "proofs").rglob("*.antt")}
-        for path in self.names:
-            if path in kept or "+" in path or "::fn::" in path or is_cited(path, copy, proofs):
-                continue
+        proofs = {it: it.read_text() for it in (self.folder / "proofs").rglob("*.antt")}
+        may = (it for it in self.names if it not in kept and "+" not in it and "::fn::" not in it)
+        return [it for it in may if not is_cited(it, self.folder, proofs)]
+
+    def take_as_proved(self, copy, proved):
+        """Leaves out the proofs of functions: the gate has proved that they meet their contracts."""
+        for path in proved:
             inside = path.split("::")[1:]
             proof = copy.joinpath("proofs", *inside)
             proof.mkdir(parents=True, exist_ok=True)
@@ -312,21 +288,22 @@ class Crate:
                 break
         return ran
 
-    def try_some(self, edits):
+    def try_some(self, turns):
         """Tries edits in one check, which looks at the functions that they turn alone. Tells of those that are refused."""
-        turned = sorted({path for it in edits for path in it.turned})
-        copy = self.copy(edits)
-        self.take_as_proved(copy, turned)
+        turned = sorted({path for it in turns for path in it.turned})
+        proved = self.others([it.edit.body.path for it in turns if it.number] + turned)
+        copy = self.copy(turns, proved)
+        self.take_as_proved(copy, proved)
         words = ["--allow-holes", "--short-goals", "--incremental", str(self.room / "kept")]
         ran = self.check(copy, words + [word for it in turned for word in ("--only", it.partition("::")[2])])
         if not re.search(r"^only=\d+ ", ran.stdout, re.M) or is_strange(ran.stdout, turned):
             return {}
         said = dict(re.findall(rf"^fn ({self.name}::\S+): (.*)", ran.stdout, re.M))
-        return {it.name: why for it in edits if (why := self.refusal(it, said, ran.stdout))}
+        return {it.edit.name: why for it in turns if (why := self.refusal(it.turned, said, ran.stdout))}
 
-    def refusal(self, edit, said, output):
-        """Why an edit is refused, if it is: at a goal of a function that it turns, or of a closure in it."""
-        for turned in edit.turned:
+    def refusal(self, paths, said, output):
+        """Why what is turned is refused, if it is: at a goal of a function of these, or of a closure in it."""
+        for turned in paths:
             front, _, name = turned.rpartition("::")
             for path, verdict in said.items():
                 is_inside = path.startswith(f"{front}::fn::{name}::") or f"::fn::{'::'.join(turned.split('::')[-2:])}::" in path
@@ -343,7 +320,7 @@ class Crate:
 
     def try_whole(self, edit):
         """Tries an edit by a check of the whole crate from nothing, as the gate does. Tells whether it is refused."""
-        ran = self.check(self.copy([edit]), [])
+        ran = self.check(self.copy([Turn(edit, edit.turned)]), [])
         lines = ran.stdout.rstrip("\n").split("\n")
         if ran.returncode == 1 and lines[-1].startswith("logic=not-proved"):
             return True, "refused by a check of the whole crate"
